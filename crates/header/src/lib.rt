@@ -1,0 +1,79 @@
+// Rules 5 to 8 of document 01: the header, its size, the component and the base.
+ghost use mathlib.Core.Path.{_≡_};
+ghost use Prim.Native.Nat.{_+_, _≤_, _<_};
+ghost use lib.ListN.{length};
+ghost use Rattle.facts.specs.Fact.{Tells};
+ghost use Rattle.header.specs.Header.{headerFits, sizeFits, component, componentFits};
+ghost use Rattle.header.specs.Base.{legalBase};
+
+// Rule 5, the section being `size` bytes long.
+pub fn header_fits(image: &[u8], H: usize, size: usize) -> bool
+    requires { ⌜ H + 72 ≤ length (now image) ⌝ }
+    ensures { λ r. ⌜ Tells r (headerFits (now (image .entry)) H size) ⌝ }
+{
+    if words::le32(image, H) != 0x48505346 {
+        return false;
+    }
+    if words::byte(image, H + 11) < 3 {
+        return false;
+    }
+    let L = words::le32(image, H + 4);
+    if L < 72 {
+        return false;
+    }
+    if 256 < L {
+        return false;
+    }
+    if size < 4 + L {
+        return false;
+    }
+    true
+}
+
+// Rule 6.
+pub fn size_fits(image: &[u8], H: usize) -> bool
+    requires { ⌜ H + 72 ≤ length (now image) ⌝ }
+    ensures { λ r. ⌜ Tells r (sizeFits (now (image .entry)) H) ⌝ }
+{
+    if words::le32(image, H + 24) != image.len() {
+        return false;
+    }
+    true
+}
+
+// The component, whatever it is.
+pub fn component_at(image: &[u8], H: usize) -> usize
+    requires { ⌜ H + 72 ≤ length (now image) ⌝ }
+    ensures { λ r. ⌜ r ≡ component (now (image .entry)) H ⌝ }
+{
+    words::le16(image, H + 34) / 4096
+}
+
+// Rule 7.
+pub fn component_fits(k: usize) -> bool
+    ensures { λ r. ⌜ Tells r (componentFits k) ⌝ }
+{
+    if k < 1 {
+        return false;
+    }
+    if 4 < k {
+        return false;
+    }
+    true
+}
+
+// Whether an image of `size` bytes may stand at `base`: rules 8 and 18.
+pub fn legal(base: u64, size: usize) -> bool
+    ensures { λ r. ⌜ Tells r (legalBase size base) ⌝ }
+{
+    if u64::trailing_zeros(base) < 12 {
+        return false;
+    }
+    if 4294967296 < base {
+        return false;
+    }
+    if 4294967296 - base < size as u64 {
+        return false;
+    }
+    true
+}

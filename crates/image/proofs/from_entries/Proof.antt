@@ -1,0 +1,87 @@
+use Rattle.facts.specs.Rules.{run}
+use borrow.Author.Tests.{lt-ltb, le-ltb}
+use Rattle.image.specs.Reading.{fromEntries}
+use borrow.Author.Needs.{needs}
+use Rattle.image.proofs.from_entries.Statement.{statement}
+use Rattle.image.proofs.from_entries.Tie as tie
+
+first-refused-requires : tie.Need-first-refused-requires
+first-refused-requires c κs = search needs
+
+refused-requires : tie.Need-refused-requires
+refused-requires c κs = search needs
+
+returns : tie.Need-returns
+unfolding run fromEntries
+returns c =
+    rw (← c .before .before .first-refused .ensures, lt-ltb _ _ (c .before .if1 .taken)) (c .refused .ensures)
+
+first-refused-requires-2 : tie.Need-first-refused-requires-2
+first-refused-requires-2 c κs = search needs
+
+refused-requires-2 : tie.Need-refused-requires-2
+refused-requires-2 c κs = search needs
+
+returns-2 : tie.Need-returns-2
+unfolding run fromEntries
+returns-2 c =
+    let past = c .before .before .before in
+    rw (
+      ← past .before .first-refused .ensures,
+      le-ltb _ _ (past .if1 .left),
+      ← c .before .before .first-refused2 .ensures,
+      lt-ltb _ _ (c .before .if2 .taken),
+    ) (c .refused2 .ensures)
+
+first-overlap-requires : tie.Need-first-overlap-requires
+first-overlap-requires c κs = search needs
+
+refused-requires-3 : tie.Need-refused-requires-3
+refused-requires-3 c κs = search needs
+
+returns-3 : tie.Need-returns-3
+unfolding run fromEntries
+returns-3 c =
+    let past2 = c .before .before .before in
+    let past = past2 .before .before in
+    rw (
+      ← past .before .first-refused .ensures,
+      le-ltb _ _ (past .if1 .left),
+      ← past2 .before .first-refused2 .ensures,
+      le-ltb _ _ (past2 .if2 .left),
+      ← c .before .before .first-overlap .ensures,
+      lt-ltb _ _ (c .before .if3 .taken),
+    ) (c .refused3 .ensures)
+
+accept-requires : tie.Need-accept-requires
+accept-requires c κs = search needs
+
+returns-4 : tie.Need-returns-4
+unfolding run fromEntries
+returns-4 c =
+    let past2 = c .before .before .before in
+    let past = past2 .before .before in
+    rw (
+      ← past .before .first-refused .ensures,
+      le-ltb _ _ (past .if1 .left),
+      ← past2 .before .first-refused2 .ensures,
+      le-ltb _ _ (past2 .if2 .left),
+      ← c .before .before .first-overlap .ensures,
+      le-ltb _ _ (c .before .if3 .left),
+    ) (c .accept .ensures)
+
+pub from-entries-spec : {M : Type 1} → statement M
+from-entries-spec =
+    tie.close
+    (tie.spec
+    first-refused-requires
+    refused-requires
+    returns
+    first-refused-requires-2
+    refused-requires-2
+    returns-2
+    first-overlap-requires
+    refused-requires-3
+    returns-3
+    accept-requires
+    returns-4)

@@ -1,0 +1,115 @@
+-- What an accepted reading guarantees.
+-- Assumes nothing.
+use Prim.Native.Nat.{ℕ, _+_, _-_, _*_, _≤_, _<_}
+use mathlib.Core.Bool.{true}
+use mathlib.Core.List.{List}
+use mathlib.Core.Logic.{_⊎_, inl, inr}
+use mathlib.Core.Path.{_≡_, refl}
+use native.Mathlib.Omega.{arith}
+use lib.ListN.{length}
+use Rattle.facts.specs.Fact.{Holds}
+use Rattle.facts.specs.Rules.{Passed, passed, run}
+use Rattle.words.specs.Le.{le}
+use Rattle.header.specs.Header.{component, componentFits}
+use Rattle.header.specs.Base.{legalBase}
+use Rattle.volume.specs.Volume.{lengthFits}
+use Rattle.table.specs.Passes.{place, outside, apart, clear}
+use Rattle.table.specs.PassesLaws.{place-placed}
+use Rattle.image.specs.declared.Reading.{Reading}
+use Rattle.image.specs.Reading.{refusal, identityAt, accepted, fromEntries, fromRegion, fromPatch, fromTable, fromComponent, fromHeader, fromSection, fromFile, fromExtension, fromVolume, rules, reading}
+
+-- where the entries of the patch table start
+abbrev pub entriesAt : Reading → ℕ
+entriesAt r = r .E - 4 * r .n
+
+-- where the i-th patch word stands
+abbrev pub wordAt : List ℕ → Reading → ℕ → ℕ
+wordAt xs r i = place xs (entriesAt r) i .at
+
+-- r, an accepted reading of xs: its fields, the order of its places, and its patch words
+pub record Guaranteed (xs : List ℕ) (r : Reading) : Type 0 where
+  pub length-least : 72 ≤ length xs
+  pub length-most : length xs ≤ 16777216
+  pub base-is : r .base ≡ le 4 xs (r .H + 28)
+  pub identity-is : r .identity ≡ identityAt xs (r .H)
+  pub component-is : r .component ≡ component xs (r .H)
+  pub c-is : r .c ≡ le 4 xs (r .H + 36)
+  pub z-is : r .z ≡ le 4 xs (r .H + 40)
+  pub component-least : 1 ≤ r .component
+  pub component-most : r .component ≤ 4
+  pub legal : Holds (legalBase (length xs) (r .base))
+  pub header-below : r .H + 84 ≤ entriesAt r
+  pub entries-end : entriesAt r + 4 * r .n ≡ r .E
+  pub n-most : r .n ≤ 1024
+  pub region-after : r .E ≤ r .c
+  pub z-least : 32 ≤ r .z
+  pub z-most : r .z ≤ 65536
+  pub region-within : r .c + r .z ≤ length xs
+  pub placed : (i : ℕ) → i < r .n → place xs (entriesAt r) i .number ≡ 0
+  pub word-within : (i : ℕ) → i < r .n → wordAt xs r i + 4 ≤ length xs
+  pub word-outside : (i : ℕ) → i < r .n → Holds (outside (wordAt xs r i) (r .E) (r .c) (r .z))
+  pub word-apart : (i j : ℕ) → j < i → i < r .n → Holds (apart (wordAt xs r i) (wordAt xs r j))
+
+-- E - 4n is where the entries start
+start : (t n : ℕ) → t + 4 * n - 4 * n ≡ t
+start t n = omega arith
+
+module _ (xs : List ℕ) (r : Reading) (fits : Holds (lengthFits xs)) where
+  from-patch : (H p end : ℕ) → end ≤ length xs → H + 72 ≤ p → Holds (componentFits (component xs H))
+      → Holds (legalBase (length xs) (le 4 xs (H + 28))) → Passed (fromPatch xs H p end) r → Guaranteed xs r
+  unfolding fromPatch fromRegion fromEntries accepted
+  from-patch H p end inside below comp legal (patch, (region, (marks, (types, (places, (clears, e)))))) =
+      let n = le 4 xs (p + 8) in
+      let t = start (p + 12) n in
+      let zero : (i : ℕ) → i < n → place xs (p + 12) i .number ≡ 0 = λ i h. place-placed xs (p + 12) i .numbers (types i h) (places i h) in
+      rw e (record {
+        length-least = omega arith;
+        length-most = omega arith;
+        base-is = refl;
+        identity-is = refl;
+        component-is = refl;
+        c-is = refl;
+        z-is = refl;
+        component-least = comp .0;
+        component-most = comp .1;
+        legal = legal;
+        header-below = omega arith;
+        entries-end = omega arith;
+        n-most = omega arith;
+        region-after = omega arith;
+        z-least = omega arith;
+        z-most = omega arith;
+        region-within = omega arith;
+        placed = rw t zero;
+        word-within = rw (wordAt, t) (λ i h. place-placed xs (p + 12) i .fits (zero i h));
+        word-outside = rw (wordAt, t) (λ i h. clears i h .0);
+        word-apart = rw (wordAt, t) (λ i j l h. clears i h .1 j l);
+      })
+
+  from-header : (f size : ℕ) → f + 24 + size ≤ length xs → Passed (fromHeader xs f size) r → Guaranteed xs r
+  unfolding fromHeader fromComponent fromTable
+  from-header f size inside (head, (same, (comp, (legal, inl (there, (ext, rest)))))) =
+      from-patch (f + 28) _ (f + 24 + size) inside (omega arith) comp legal rest
+  from-header f size inside (head, (same, (comp, (legal, inr (none, rest))))) =
+      from-patch (f + 28) _ (f + 24 + size) inside (omega arith) comp legal rest
+
+  from-file : (v f : ℕ) → v ≤ length xs → Passed (fromFile xs v f) r → Guaranteed xs r
+  unfolding fromFile fromSection
+  from-file v f inside (file, (section, rest)) = from-header f (le 3 xs (f + 24)) (omega arith) rest
+
+-- an accepted reading has passed every rule
+pub all-passed : (xs : List ℕ) → reading xs .number ≡ 0 → Passed (rules xs) (reading xs)
+unfolding reading rules fromVolume fromExtension fromFile fromSection fromHeader fromComponent fromTable fromPatch fromRegion fromEntries
+all-passed xs e = passed refusal (λ (r : Reading). r .number) (λ k i. refl) (rules xs) refl e
+
+from-rules : (xs : List ℕ) (r : Reading) → Passed (rules xs) r → Guaranteed xs r
+unfolding rules fromVolume fromExtension
+from-rules xs r (fits, (volume, inl (none, rest))) = from-file xs r fits (le 8 xs 32) _ (omega arith) rest
+from-rules xs r (fits, (volume, inr (some, (extension, rest)))) = from-file xs r fits (le 8 xs 32) _ (omega arith) rest
+
+pub guaranteed : (xs : List ℕ) → reading xs .number ≡ 0 → Guaranteed xs (reading xs)
+guaranteed xs e = from-rules xs (reading xs) (all-passed xs e)
+
+-- any two answers that the promise of a reading admits are the same
+pub one-reading : (xs : List ℕ) (r s : Reading) → r ≡ reading xs → s ≡ reading xs → r ≡ s
+one-reading xs r s a b = cc

@@ -1,0 +1,4 @@
+pub mod Reading
+pub mod Guarantee
+pub mod Frame
+pub mod FrameBelow

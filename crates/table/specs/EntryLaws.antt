@@ -1,0 +1,35 @@
+-- What placing an entry says.
+-- Assumes nothing.
+use Prim.Native.Nat.{ℕ, _+_, _-_, _/_, _%_, _^_, _≤_}
+use mathlib.Core.Logic.{_⊎_, inl, inr}
+use mathlib.Core.Path.{_≡_, refl}
+use native.Mathlib.Omega.{arith}
+use lib.Dec.{eqb}
+use Rattle.facts.specs.Fact.{Fact, _≤?_}
+use Rattle.facts.specs.Rules.{by-cond, by-test}
+use Rattle.table.specs.declared.Place.{Place}
+use Rattle.table.specs.Entry.{refusedPlace, typeFits, fitted, placeOf}
+
+-- a place lies in the image; an entry has one unless it is refused with 12 or 13
+pub record Placed (size : ℕ) (w : Place) : Type 0 where
+  pub within : w .at ≤ size
+  pub fits : w .number ≡ 0 → w .at + 4 ≤ size
+  pub numbers : (w .number ≡ 12 → ⊥) → (w .number ≡ 13 → ⊥) → w .number ≡ 0
+
+fitted-placed : (size at : ℕ) → Placed size (fitted size at)
+fitted-placed size at =
+    by-test (Placed size) (at + 4 ≤? size) _ _
+    (λ h. record { within = omega arith; fits = λ e. h; numbers = λ a b. refl })
+    (λ h. record { within = omega arith; fits = λ e. absurd (omega arith); numbers = λ a b. absurd (b refl) })
+
+pub placed : (size w : ℕ) → Placed size (placeOf size w)
+unfolding placeOf
+placed size w =
+    let low = w % 2 ^ 24 in
+    by-test (Placed size) (typeFits w) _ _
+    (λ h.
+    by-cond (Placed size) (eqb (w / 2 ^ 31 % 2) 0) _ _ (λ e. fitted-placed size low)
+    (λ e.
+    by-test (Placed size) (2 ^ 24 - low ≤? size) _ _ (λ k. fitted-placed size (size - (2 ^ 24 - low)))
+    (λ k. record { within = omega arith; fits = λ e. absurd (omega arith); numbers = λ a b. absurd (b refl) })))
+    (λ h. record { within = omega arith; fits = λ e. absurd (omega arith); numbers = λ a b. absurd (a refl) })

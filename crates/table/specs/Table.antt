@@ -1,0 +1,29 @@
+-- Document 01, "Patch table": rule 9, in its letters: p and n. `end` is the position after the section, in which all of it lies.
+-- Assumes nothing.
+use Prim.Native.Nat.{ℕ, _+_, _*_, _/_}
+use mathlib.Core.List.{List}
+use Rattle.facts.specs.Fact.{Fact, _≤?_, _≡?_, _and_}
+use Rattle.words.specs.Le.{le}
+
+-- rounding up to a multiple of 4
+abbrev pub round4 : ℕ → ℕ
+round4 n = (n + 3) / 4 * 4
+
+-- `FSPE` stands at p
+abbrev pub extended : List ℕ → ℕ → ℕ → Fact
+extended xs p end = p + 4 ≤? end and le 4 xs p ≡? 0x45505346
+
+-- its 32-bit length at p+4 must be at least 24 and end inside the section
+abbrev pub extendedFits : List ℕ → ℕ → ℕ → Fact
+extendedFits xs p end = let k = le 4 xs (p + 4) in p + 8 ≤? end and 24 ≤? k and p + k ≤? end
+
+-- at p: `FSPP`, a 16-bit length (not judged), revision 1 at p+6, and the 32-bit count n at p+8, at most 1,024; entries of 4 bytes
+-- follow from p+12
+abbrev pub patchFits : List ℕ → ℕ → ℕ → Fact
+patchFits xs p end =
+    let n = le 4 xs (p + 8) in
+    p + 12 ≤? end
+    and le 4 xs p ≡? 0x50505346
+    and le 1 xs (p + 6) ≡? 1
+    and n ≤? 1024
+    and p + 12 + 4 * n ≤? end

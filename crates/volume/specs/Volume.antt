@@ -1,0 +1,85 @@
+-- Document 01, "Reading an image", rules 1 to 4, in its letters: h, V, x, e, f, s. Each rule is the check that is passed.
+-- Assumes nothing.
+use Prim.Native.Nat.{ℕ, zero, suc, _+_, _-_, _*_, _/_, _%_}
+use mathlib.Core.List.{List, [], _∷_}
+use lib.ListN.{length, getD}
+use Rattle.facts.specs.Fact.{Fact, _≤?_, _≡?_, _and_, every}
+use Rattle.words.specs.Le.{le}
+
+-- 1 LENGTH: image shorter than 72 or longer than 16,777,216 bytes
+abbrev pub lengthFits : List ℕ → Fact
+lengthFits xs = 72 ≤? length xs and length xs ≤? 16777216
+
+-- the sum of the first n words of 16 bits
+unfoldable pub sumWords : List ℕ → ℕ → ℕ
+sumWords xs zero = 0
+sumWords xs (suc n) = sumWords xs n + le 2 xs (2 * n)
+
+-- 2 VOLUME: bytes 40..43 aren't `_FVH`; or not 72 <= h <= V <= length; or h is odd; or the 16-bit words of bytes 0..h-1 don't sum to
+-- 0 modulo 65,536
+abbrev pub volumeFits : List ℕ → ℕ → ℕ → Fact
+volumeFits xs h v =
+    le 4 xs 40 ≡? 0x4856465F
+    and 72 ≤? h
+    and h ≤? v
+    and v ≤? length xs
+    and h % 2 ≡? 0
+    and sumWords xs (h / 2) % 65536 ≡? 0
+
+-- 2 VOLUME: x is not 0 and not (x >= h, x+20 <= V, e >= 20, x+e <= V), e being the 32-bit number at x+16
+abbrev pub extensionFits : List ℕ → ℕ → ℕ → ℕ → Fact
+extensionFits xs h v x = let e = le 4 xs (x + 16) in h ≤? x and x + 20 ≤? v and 20 ≤? e and x + e ≤? v
+
+-- rounding up to a multiple of 8
+abbrev pub round8 : ℕ → ℕ
+round8 n = (n + 7) / 8 * 8
+
+-- the 16 bytes of g stand at `at`
+abbrev pub sameAt : List ℕ → ℕ → List ℕ → Fact
+sameAt xs at g = every 16 (λ i. getD xs (at + i) 0 ≡? getD g i 0)
+
+-- the header file's GUID, 912740BE-2284-4734-B971-84B027353F0C
+abbrev pub guid : List ℕ
+guid =
+    0xBE
+    ∷ 0x40
+    ∷ 0x27
+    ∷ 0x91
+    ∷ 0x84
+    ∷ 0x22
+    ∷ 0x34
+    ∷ 0x47
+    ∷ 0xB9
+    ∷ 0x71
+    ∷ 0x84
+    ∷ 0xB0
+    ∷ 0x27
+    ∷ 0x35
+    ∷ 0x3F
+    ∷ 0x0C
+    ∷ []
+
+-- the sum of the n bytes from `at` on
+unfoldable pub sumBytes : List ℕ → ℕ → ℕ → ℕ
+sumBytes xs at zero = 0
+sumBytes xs at (suc n) = sumBytes xs at n + le 1 xs (at + n)
+
+-- the header bytes f..f+23, with those at f+17 and f+23 taken as 0: f..f+16 and f+18..f+22
+unfoldable pub fileSum : List ℕ → ℕ → ℕ
+fileSum xs f = sumBytes xs f 17 + sumBytes xs (f + 18) 5
+
+-- 3 FILE: f+24 > V; or the name at f isn't the header file's GUID; or attribute bit 0 at f+19 is set (large file); or the header bytes
+-- don't sum to 0 modulo 256; or s, the 24-bit number at f+20, is below 28 or f+s > V
+abbrev pub fileFits : List ℕ → ℕ → ℕ → Fact
+fileFits xs v f =
+    let s = le 3 xs (f + 20) in
+    f + 24 ≤? v
+    and sameAt xs f guid
+    and le 1 xs (f + 19) % 2 ≡? 0
+    and fileSum xs f % 256 ≡? 0
+    and 28 ≤? s
+    and f + s ≤? v
+
+-- 4 SECTION: the type byte at f+27 isn't 0x19; or the 24-bit size at f+24 is below 76 or above s-24
+abbrev pub sectionFits : List ℕ → ℕ → ℕ → Fact
+sectionFits xs f s = let size = le 3 xs (f + 24) in le 1 xs (f + 27) ≡? 0x19 and 76 ≤? size and size ≤? s - 24
