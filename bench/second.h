@@ -1,4 +1,4 @@
-/* The second reader: "Reading an image" of document 01, written apart from the library. */
+/* The second reader: the calls of document 01, written apart from the library. */
 #ifndef BENCH_SECOND_H
 #define BENCH_SECOND_H
 
@@ -19,6 +19,48 @@ struct second_reading {
 	uint64_t E;
 };
 
+/* The move is the new base minus the old one; 0 where refused. */
+struct second_moved {
+	uint64_t number;
+	uint64_t index;
+	int64_t move;
+};
+
+struct second_applied {
+	uint64_t number;
+	uint64_t index;
+};
+
+/* The part of the image that holds a setting: its position in the image; length 0 where refused. */
+struct second_part {
+	uint64_t number;
+	uint64_t position;
+	uint64_t length;
+};
+
+/* Explained is 0 or 1; refusal 20 keeps base and counts, any other refusal number and index alone. */
+struct second_audited {
+	uint64_t number;
+	uint64_t index;
+	uint64_t base;
+	uint64_t settings;
+	uint64_t strays;
+	uint64_t bits;
+	uint64_t explained;
+};
+
 struct second_reading second_read(const uint8_t *image, uint64_t length);
+
+struct second_moved second_move(uint8_t *image, uint64_t length, uint64_t new_base);
+
+struct second_applied second_apply(uint8_t *image, uint64_t length,
+				   const uint8_t *sheet, uint64_t sheet_length);
+
+struct second_part second_setting(const uint8_t *image, uint64_t length,
+				  uint64_t offset, uint64_t size);
+
+struct second_audited second_audit(const uint8_t *vendor, uint64_t vendor_length,
+				   const uint8_t *shipped, uint64_t shipped_length,
+				   uint32_t *places, uint64_t places_count);
 
 #endif

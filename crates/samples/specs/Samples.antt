@@ -1,34 +1,157 @@
 -- Document 01, "Sample table": the rows marked (P), proved together as a single table under a single statement about the rules.
 -- Assumes nothing.
-use Prim.Native.Nat.{ℕ}
+use Prim.Native.Nat.{ℕ, _+_, _≤_}
+use mathlib.Core.Bool.{Bool, true, false, cond, _&&_}
 use mathlib.Core.List.{List, [], _∷_}
-use mathlib.Core.Path.{refl}
-use Rattle.facts.specs.Fact.{Fact, _≡?_, deny, _and_, test, Holds, holds}
+use mathlib.Core.Path.{_≡_, refl, sym, ap, _∙_}
+use native.Mathlib.Omega.{arith}
+use lib.IntN.{ℤ, pos, natAbs}
+use lib.ListN.{length, getD, take}
+use lib.Signed.{ltZ}
+use Rattle.facts.specs.Fact.{Fact, _≤?_, _≡?_, deny, _and_, every, allBelow, test, Holds, holds, passes, fails, agree, says}
+use Rattle.facts.specs.Rules.{run, and-left, and-right}
+use Rattle.words.specs.Le.{le}
+use Rattle.words.specs.Put.{digit, put, add}
 use Rattle.header.specs.Base.{legalBase}
 use Rattle.table.specs.Entry.{placeOf}
+use Rattle.image.specs.declared.Identity.{Identity}
+use Rattle.image.specs.Reading.{refusal, reading}
+use Rattle.image.specs.Frame.{rebased}
+use Rattle.image.specs.Guarantee.{guaranteed}
+use Rattle.moving.specs.Moves.{difference}
+use Rattle.moving.specs.Moving.{acceptedMove}
+use Rattle.sheet.specs.Sheet.{sheetIdentity, count, offset, size, bodyAt, contentsFit, bodiesFit, sameIdentity, fieldFits}
+use Rattle.sheet.specs.Applying.{applied, sheetRules, applying, appliedImage}
+use Rattle.sheet.specs.ApplyingLaws.{Sound, sound-sheet, applying-judged, applying-accepted, set-in}
+use Rattle.sheet.specs.declared.Applied.{Applied}
 
--- a row, for an image of this size
 pub data Row : Type 0 where
-  -- the entry points at this place
+  -- an entry of an image of this size points at this place
   points : (size entry place : ℕ) → Row
-  -- the entry is refused with this number
+  -- it is refused with this number
   refuses : (size entry number : ℕ) → Row
-  -- the base is legal
+  -- a base is legal for an image of this size
   legal : (size base : ℕ) → Row
-  -- the base isn't
+  -- a base isn't
   illegal : (size base : ℕ) → Row
+  -- a move from old to new has this difference and goes down by this much
+  moves : (old new difference down : ℕ) → Row
+  -- it makes of this word that one
+  makes : (old new word moved : ℕ) → Row
+  -- for an image of the sheet's identity and revision with at least so many region bytes, the sheet sets two region bytes to these
+  sets : (sheet : List ℕ) (z at first second : ℕ) → Row
+  -- the sheet is refused with 15
+  unsound : (sheet : List ℕ) → Row
+
+-- the move in the answer to a move from old to new
+abbrev distanceOf : ℕ → ℕ → ℤ
+distanceOf old new = acceptedMove (rebased (refusal 0 0) old) new .distance
+
+-- 1 for a number below 0
+abbrev sign : ℤ → ℕ
+sign z = cond (ltZ z (pos 0)) 1 0
+
+-- the check by which a row is computed
+abbrev check : Row → Fact
+check (points size entry place) = placeOf size entry .number ≡? 0 and placeOf size entry .at ≡? place
+check (refuses size entry number) = placeOf size entry .number ≡? number and placeOf size entry .at ≡? 0
+check (legal size base) = legalBase size base
+check (illegal size base) = deny (legalBase size base)
+check (moves old new by down) = difference old new 4 ≡? by and sign (distanceOf old new) ≡? 1 and natAbs (distanceOf old new) ≡? down
+check (makes old new word moved) = le 4 (add 4 (put 4 (0 ∷ 0 ∷ 0 ∷ 0 ∷ []) 0 word) 0 (difference old new 4)) 0 ≡? moved
+check (sets s z at first second) =
+    contentsFit s
+    and bodiesFit s
+    and every (count s) (fieldFits s z)
+    and 1 ≤? count s
+    and offset s 0 ≡? at
+    and size s 0 ≡? 2
+    and getD s (bodyAt s 0) 0 ≡? first
+    and getD s (bodyAt s 0 + 1) 0 ≡? second
+check (unsound s) = contentsFit s and deny (bodiesFit s)
 
 -- what a row says of the rules
-abbrev pub claim : Row → Fact
-claim (points size entry place) = placeOf size entry .number ≡? 0 and placeOf size entry .at ≡? place
-claim (refuses size entry number) = placeOf size entry .number ≡? number and placeOf size entry .at ≡? 0
-claim (legal size base) = legalBase size base
-claim (illegal size base) = deny (legalBase size base)
+abbrev pub Claim : Row → Type 0
+Claim (points size entry place) = Holds (check (points size entry place))
+Claim (refuses size entry number) = Holds (check (refuses size entry number))
+Claim (legal size base) = Holds (check (legal size base))
+Claim (illegal size base) = Holds (check (illegal size base))
+Claim (moves old new by down) = Holds (check (moves old new by down))
+Claim (makes old new word moved) = Holds (check (makes old new word moved))
+Claim (sets s z at first second) =
+    (xs : List ℕ) → reading xs .number ≡ 0 → Holds (sameIdentity (sheetIdentity s) (reading xs .identity)) → z ≤ reading xs .z
+    → (applying xs s ≡ applied 0 0)
+    × (getD (appliedImage xs s) (reading xs .c + at) 0 ≡ first)
+    × (getD (appliedImage xs s) (reading xs .c + at + 1) 0 ≡ second)
+Claim (unsound s) = (xs : List ℕ) → reading xs .number ≡ 0 → applying xs s ≡ applied 15 0
 
--- what all of them say
-abbrev pub claims : List Row → Fact
-claims [] = 0 ≡? 0
-claims (row ∷ rest) = claim row and claims rest
+-- a row that computes is right
+right : (row : Row) → Holds (check row) → Claim row
+unfolding run sheetRules
+right (points size entry place) h = h
+right (refuses size entry number) h = h
+right (legal size base) h = h
+right (illegal size base) h = h
+right (moves old new by down) h = h
+right (makes old new word moved) h = h
+right (sets s z at first second) (contents, (bodies, (fields, (one, (place, (two, (a, b))))))) = λ xs ok names room.
+    let sound : Sound s (reading xs .z) = record { contents = contents; bodies = bodies; fields = λ i h. (fields i h .0, omega (arith, fields i h .1)) } in
+    let judged = ap (λ (v : Applied). v .number) (sound-sheet (reading xs .identity) (reading xs .z) s sound names) in
+    let after = applying-accepted xs s ok judged in
+    let byte = set-in xs (reading xs) s (guaranteed xs ok) sound 0 in (
+      after .0,
+      rw (after .1, ← place) (let e : reading xs .c + offset s 0 + 0 ≡ reading xs .c + offset s 0 = omega arith in let f : bodyAt s 0 + 0 ≡ bodyAt s 0 = omega arith in rw (e, f) at (byte 0 one (omega arith)) ∙ a),
+      rw (after .1, ← place) (byte 1 one (omega arith) ∙ b),
+    )
+right (unsound s) (contents, none) = λ xs ok. applying-judged xs s ok ∙ refused (reading xs .identity) (reading xs .z)
+  where
+    refused : (identity : Identity) (z : ℕ) → run applied (sheetRules identity z s) ≡ applied 15 0
+    refused identity z = rw (passes (contentsFit s) contents, fails (bodiesFit s) none)
+
+-- every row of a list
+abbrev pub Each : List Row → Type 0
+Each [] = ⊥ → ⊥
+Each (row ∷ rest) = Claim row × Each rest
+
+-- one test for all of them
+abbrev each : List Row → Bool
+each [] = true
+each (row ∷ rest) = test (check row) && each rest
+
+all-right : (l : List Row) → each l ≡ true → Each l
+all-right [] e = λ x. x
+all-right (row ∷ rest) e =
+    (right row (holds (check row) (and-left (test (check row)) (each rest) e)), all-right rest (and-right (test (check row)) (each rest) e))
+
+abbrev sheet : List ℕ
+sheet =
+    0x54
+    ∷ 0x52
+    ∷ 0x45
+    ∷ 0x41
+    ∷ 0x54
+    ∷ 0x2D
+    ∷ 0x30
+    ∷ 0x31
+    ∷ 0x04
+    ∷ 0x03
+    ∷ 0x02
+    ∷ 0x01
+    ∷ 0x01
+    ∷ 0x00
+    ∷ 0x00
+    ∷ 0x00
+    ∷ 0x28
+    ∷ 0x00
+    ∷ 0x00
+    ∷ 0x00
+    ∷ 0x02
+    ∷ 0x00
+    ∷ 0x18
+    ∷ 0x00
+    ∷ 0x01
+    ∷ 0x00
+    ∷ []
 
 -- image size 524,288
 abbrev pub rows : List Row
@@ -42,9 +165,14 @@ rows =
     ∷ legal 524288 0xFFF80000
     ∷ illegal 524288 0xFFF81000
     ∷ illegal 524288 0xFFF80800
+    ∷ moves 0xFFF80000 0x00100000 0x00180000 4293394432
+    ∷ makes 0xFFF80000 0x00100000 0xFFF80040 0x00100040
+    ∷ makes 0xFFF80000 0x00100000 0xFFFFFFFC 0x0017FFFC
+    ∷ sets sheet 42 40 0x01 0x00
+    ∷ unsound (take 25 sheet)
     ∷ []
 
 -- the sample table
-pub samples : Holds (claims rows)
-unfolding test placeOf
-samples = holds (claims rows) refl
+pub samples : Each rows
+unfolding test allBelow placeOf difference le digit put add bodyAt
+samples = all-right rows refl

@@ -1,7 +1,9 @@
 // Little-endian numbers of a slice of bytes.
-ghost use Prim.Native.Nat.{_+_, _≤_};
+ghost use mathlib.Core.Path.{_≡_};
+ghost use Prim.Native.Nat.{_+_, _%_, _^_, _≤_};
 ghost use lib.ListN.{length};
 ghost use Rattle.words.specs.Le.{Word};
+ghost use Rattle.words.specs.Put.{put, add};
 
 // The byte at `at`.
 pub fn byte(s: &[u8], at: usize) -> usize
@@ -41,4 +43,31 @@ pub fn le64(s: &[u8], at: usize) -> usize
     ensures { λ r. ⌜ Word (now (s .entry)) at 8 r ⌝ }
 {
     le32(s, at) + 4294967296 * le32(s, at + 4)
+}
+
+// The 32-bit number w at `at`.
+pub fn put32(s: &mut [u8], at: usize, w: u32)
+    requires { ⌜ at + 4 ≤ length (now s) ⌝ }
+    ensures { λ _. ⌜ now (s .exit) ≡ put 4 (now (s .entry)) at w ⌝ }
+{
+    s[at] = (w % 256) as u8;
+    s[at + 1] = (w / 256 % 256) as u8;
+    s[at + 2] = (w / 65536 % 256) as u8;
+    s[at + 3] = (w / 16777216 % 256) as u8;
+}
+
+// The sum with wraparound.
+fn sum32(a: u32, b: u32) -> u32
+    ensures { λ r. ⌜ r ≡ (a + b) % 2 ^ 32 ⌝ }
+{
+    std::num::wrapping_add_u32(a, b)
+}
+
+// d added, with wraparound, to the 32-bit number at `at`.
+pub fn add32(s: &mut [u8], at: usize, d: u32)
+    requires { ⌜ at + 4 ≤ length (now s) ⌝ }
+    ensures { λ _. ⌜ now (s .exit) ≡ add 4 (now (s .entry)) at d ⌝ }
+{
+    let w = sum32(le32(s, at) as u32, d);
+    put32(s, at, w);
 }

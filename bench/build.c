@@ -1,0 +1,388 @@
+/* The builder of images: numbers, the plan and its layout, and the ways to break one rule. */
+#include "cases.h"
+
+#include <inttypes.h>
+#include <stdlib.h>
+
+const char letter[5] = { '?', 'T', 'M', 'S', 'I' };
+
+struct plan now;
+struct spots spot;
+uint8_t image[SPACE];
+uint8_t sheet[SPACE];
+uint64_t cases;
+
+static uint64_t state;
+
+/* ---- numbers ---- */
+
+/* The maker stops. */
+void fail(const char *what)
+{
+	fprintf(stderr, "cases: %s (case %" PRIu64 ")\n", what, cases);
+	exit(1);
+}
+
+/* The fixed sequence of numbers starts anew. */
+void seed(uint64_t value)
+{
+	state = value;
+}
+
+/* The fixed sequence of numbers below a bound. */
+uint64_t below(uint64_t bound)
+{
+	state ^= state >> 12;
+	state ^= state << 25;
+	state ^= state >> 27;
+	return (state * UINT64_C(2685821657736338717) >> 16) % bound;
+}
+
+/* Sources: rounding up to a multiple of a unit. */
+uint64_t round_up(uint64_t value, uint64_t unit)
+{
+	return (value + unit - 1) / unit * unit;
+}
+
+/* Sources: all numbers are little-endian. */
+static void put_in(uint8_t *buffer, uint64_t at, uint64_t width, uint64_t value)
+{
+	if (at > SPACE || width > SPACE - at)
+		fail("a number outside the buffer");
+	for (uint64_t i = 0; i < width; i++)
+		buffer[at + i] = (uint8_t)(value >> (8 * i));
+}
+
+/* Sources: all numbers are little-endian. */
+static uint64_t get_from(const uint8_t *buffer, uint64_t at, uint64_t width)
+{
+	uint64_t value = 0;
+	if (at > SPACE || width > SPACE - at)
+		fail("a number outside the buffer");
+	for (uint64_t i = 0; i < width; i++)
+		value |= (uint64_t)buffer[at + i] << (8 * i);
+	return value;
+}
+
+/* A number of the image. */
+void put(uint64_t at, uint64_t width, uint64_t value)
+{
+	put_in(image, at, width, value);
+}
+
+/* A number of the image. */
+uint64_t get(uint64_t at, uint64_t width)
+{
+	return get_from(image, at, width);
+}
+
+/* A number of the sheet or shipped file. */
+void put_sheet(uint64_t at, uint64_t width, uint64_t value)
+{
+	put_in(sheet, at, width, value);
+}
+
+/* A number of the sheet or shipped file. */
+uint64_t get_sheet(uint64_t at, uint64_t width)
+{
+	return get_from(sheet, at, width);
+}
+
+/* Characters of the image. */
+void text(uint64_t at, const char *what)
+{
+	for (uint64_t i = 0; what[i] != 0; i++)
+		put(at + i, 1, (uint8_t)what[i]);
+}
+
+/* ---- the builder ---- */
+
+/* An entry word for a place; back: bit 31 set, a distance back from the image's end. */
+uint64_t word(uint64_t place, bool back, uint64_t bits, uint64_t type)
+{
+	const uint64_t low = back ? (TWO24 - now.length + place) % TWO24 : place % TWO24;
+	return (back ? UINT64_C(0x80000000) : 0) | bits << 28 | type << 24 | low;
+}
+
+/* Refusals 3, 5 and 9: where f, H, FSPE, p and E come to stand. */
+void lay_out(void)
+{
+	spot.f = round_up(now.x != 0 ? now.x + now.e : now.h, 8);
+	spot.H = spot.f + 28;
+	spot.g = round_up(spot.H + now.L, 4);
+	spot.p = round_up(spot.g + now.guard, 4);
+	spot.E = spot.p + 12 + 4 * now.n;
+	spot.S = spot.E + now.more_section - (spot.f + 24);
+	spot.s = 24 + spot.S + now.more_file;
+}
+
+/* The layout, the region gap bytes after E, and entries clear of everything. */
+void settle(void)
+{
+	lay_out();
+	now.c = spot.E + now.gap;
+	if (now.before)
+		now.c += 4 * now.n;
+	for (uint64_t k = 0; k < now.n; k++) {
+		const uint64_t place = now.before ? spot.E + 4 * k : now.c + now.z + now.room + 8 * k;
+		now.entry[k] = word(place, k % 2 == 1, k % 8, k % 3 == 1 ? 15 : 0);
+	}
+}
+
+/* Refusal 3: the sum of the file's header made right again. */
+static void mend_file(void)
+{
+	uint64_t sum = 0;
+	for (uint64_t i = 0; i < 24; i++)
+		if (i < 16 || (i > 17 && i < 23))
+			sum += get(spot.f + i, 1);
+	put(spot.f + 16, 1, 256 - sum % 256);
+}
+
+/* Refusal 2: the sum of the volume's header made right again. */
+void mend_volume(void)
+{
+	const uint64_t h = get(48, 2);
+	uint64_t sum = 0;
+	for (uint64_t i = 0; i + 1 < h; i += 2)
+		if (i != 50)
+			sum += get(i, 2);
+	put(50, 2, 65536 - sum % 65536);
+}
+
+/* Refusals 2 and 3: both sums made right again. */
+void mend(void)
+{
+	mend_file();
+	mend_volume();
+}
+
+/* Bytes no rule speaks of are not zero, so that a reading of a wrong byte shows. */
+static void put_background(void)
+{
+	for (uint64_t i = 0; i < SPACE; i++)
+		image[i] = i % 65536 < now.fill ? (uint8_t)(i * 37 + 11) : 0;
+}
+
+/* Refusal 2: V, the mark, h, x and e. */
+static void put_volume(void)
+{
+	put(32, 8, now.V);
+	text(40, "_FVH");
+	put(48, 2, now.h);
+	put(52, 2, now.x);
+	if (now.x != 0)
+		put(now.x + 16, 4, now.e);
+}
+
+/* Refusals 3 and 4: the file and the section. */
+static void put_file(void)
+{
+	static const uint8_t name[16] = {
+		0xBE, 0x40, 0x27, 0x91, 0x84, 0x22, 0x34, 0x47,
+		0xB9, 0x71, 0x84, 0xB0, 0x27, 0x35, 0x3F, 0x0C,
+	};
+	for (uint64_t i = 0; i < 16; i++)
+		put(spot.f + i, 1, name[i]);
+	put(spot.f + 17, 3, 0x0001AA);
+	put(spot.f + 20, 3, spot.s);
+	put(spot.f + 23, 1, 0xF8);
+	put(spot.f + 24, 3, spot.S);
+	put(spot.f + 27, 1, 0x19);
+}
+
+/* Refusals 5 to 8 and 10: the header. */
+static void put_header(void)
+{
+	text(spot.H, "FSPH");
+	put(spot.H + 4, 4, now.L);
+	put(spot.H + 11, 1, now.header_revision);
+	put(spot.H + 12, 4, now.revision);
+	put(spot.H + 16, 8, now.identity);
+	put(spot.H + 24, 4, now.length);
+	put(spot.H + 28, 4, now.base);
+	put(spot.H + 34, 2, now.component << 12 | now.low12);
+	put(spot.H + 36, 4, now.c);
+	put(spot.H + 40, 4, now.z);
+}
+
+/* Refusal 9: FSPE, the patch table and its entries. */
+static void put_table(void)
+{
+	if (now.guard != 0) {
+		text(spot.g, "FSPE");
+		put(spot.g + 4, 4, now.guard);
+	}
+	text(spot.p, "FSPP");
+	put(spot.p + 4, 2, now.table_length);
+	put(spot.p + 6, 1, 1);
+	put(spot.p + 7, 1, now.table_reserved);
+	put(spot.p + 8, 4, now.n);
+	for (uint64_t k = 0; k < now.n; k++)
+		put(spot.p + 12 + 4 * k, 4, now.entry[k]);
+}
+
+/* Refusal 11: the two marks of the region. */
+void put_marks(uint64_t c)
+{
+	put(c + 6, 1, '_');
+	put(c + 7, 1, (uint8_t)letter[now.component]);
+}
+
+/* The planned image in the buffer. */
+void build(void)
+{
+	put_background();
+	put_volume();
+	put_file();
+	put_header();
+	put_marks(now.c);
+	put_table();
+	mend();
+}
+
+/* The plan all others start from. */
+void start_small(void)
+{
+	now = (struct plan){
+		.length = 8192, .V = 8192, .h = 72, .L = 72,
+		.header_revision = 3, .component = 1,
+		.identity = UINT64_C(0x31302D5441455254), .revision = 0x01020304,
+		.base = 0xFFF80000, .n = 3, .table_length = 24, .gap = 64, .z = 64,
+		.room = 64, .fill = 768,
+	};
+}
+
+/* ---- small plans ---- */
+
+/* The place entry k of the plan points to. */
+uint64_t place_of(uint64_t k)
+{
+	const uint64_t low = now.entry[k] % TWO24;
+	return now.entry[k] >> 31 == 0 ? low : now.length - (TWO24 - low);
+}
+
+/* "Moving": the highest legal base. */
+uint64_t highest_base(void)
+{
+	return (TWO32 - now.length) / 4096 * 4096;
+}
+
+/* "Moving": a legal base by the fixed sequence. */
+uint64_t random_base(void)
+{
+	return below(highest_base() / 4096 + 1) * 4096;
+}
+
+/* The layout, the image ending some bytes after its last part. */
+void fit(uint64_t tail)
+{
+	settle();
+	now.length = now.c + now.z + tail;
+	if (!now.before)
+		now.length += now.room + 8 * now.n;
+	now.V = now.component % 2 == 0 ? spot.f + spot.s : now.length;
+	settle();
+}
+
+/* Eight small plans: FSPE (bit 0), an extension (bit 1), words before the region (bit 2). */
+void small(unsigned k)
+{
+	static const uint64_t base[SMALLS] = {
+		0xFFF80000, 0x00100000, 0, 0xFFFFF000, 0x80000000, 0x7FFFF000, 0x1000, 0xFFFFE000,
+	};
+	start_small();
+	now.component = k % 4 + 1;
+	now.base = base[k];
+	now.L = 72 + k * 5 % 9;
+	now.guard = k % 2 == 1 ? 23 + k : 0;
+	if (k / 2 % 2 == 1)
+		now.x = 72 + k, now.e = 20 + k;
+	now.before = k / 4 == 1;
+	now.n = 3 + k % 2;
+	now.gap = 12 + k;
+	now.z = 40 + 3 * k;
+	now.room = 8 + k;
+	now.identity += k * UINT64_C(0x0100000001000001);
+	now.revision += k * 0x01000101;
+	fit(12 + k);
+}
+
+/* Refusal 14: the first three words at E, at the region's and the image's ends, touching, in any order. */
+void arrange(size_t i)
+{
+	const uint64_t end = now.c + now.z;
+	const uint64_t place[ARRANGEMENTS][3] = {
+		{ spot.E, now.c - 4, end }, { end, now.c - 4, spot.E },
+		{ end, end + 4, end + 8 }, { end + 8, end + 4, end },
+		{ end + 4, end, end + 8 }, { spot.E, spot.E + 4, spot.E + 8 },
+		{ spot.E + 8, spot.E, spot.E + 4 },
+		{ now.length - 4, now.length - 8, now.length - 12 },
+		{ now.length - 12, now.length - 4, now.length - 8 },
+		{ spot.E + 1, spot.E + 5, end + 3 }, { now.length - 5, end, spot.E },
+	};
+	for (uint64_t j = 0; j < 3; j++)
+		now.entry[j] = word(place[i][j], (i + j) % 3 != 1, j, 15 * (j % 2));
+}
+
+/* A small whole plan with every part drawn from the sequence. */
+void random_small(void)
+{
+	small((unsigned)below(SMALLS));
+	now.h = 72 + 2 * below(8);
+	if (now.x != 0)
+		now.x = now.h + below(8), now.e = 20 + below(12);
+	now.L = 72 + below(12);
+	now.guard = below(2) == 0 ? 24 + below(8) : 0;
+	now.n = below(7);
+	now.more_section = below(6);
+	now.more_file = below(6);
+	now.header_revision = 3 + below(253);
+	now.component = 1 + below(4);
+	now.low12 = below(4096);
+	now.identity = below(UINT64_C(1) << 47) * 131071;
+	now.revision = below(TWO32);
+	now.gap = below(24);
+	now.z = 32 + below(80);
+	now.room = below(12);
+	fit(below(40));
+	now.base = random_base();
+}
+
+/* ---- one rule broken ---- */
+
+/* One way to break each rule from 2 on; refusal 1 is a matter of the shown length. */
+void break_rule(unsigned number)
+{
+	switch (number) {
+	case 2: put(40, 1, 'x'); break;
+	case 3: put(spot.f + 5, 1, 0x23); break;
+	case 4: put(spot.f + 27, 1, 0x1B); break;
+	case 5: put(spot.H + 3, 1, 'h'); break;
+	case 6: put(spot.H + 24, 4, now.length + 1); break;
+	case 7: put(spot.H + 35, 1, 0x50); break;
+	case 8: put(spot.H + 29, 1, 0x08); break;
+	case 9: put(spot.p + 6, 1, 2); break;
+	case 10: put(spot.H + 40, 4, 31); break;
+	case 11: put(now.c + 6, 1, '-'); break;
+	case 12: put(spot.p + 12 + 4, 4, 0x02000000); break;
+	case 13: put(spot.p + 12, 4, 0xFFFFFFFE); break;
+	case 14: put(spot.p + 12 + 8, 4, word(now.c + 1, false, 0, 0)); break;
+	default: break;
+	}
+}
+
+/* Refusals 12 to 14: the index of the entry break_rule puts at fault. */
+uint64_t broken_index(unsigned number)
+{
+	return number == 12 ? 1 : number == 14 ? 2 : 0;
+}
+
+/* The planned image with one rule broken, the sums made right again; gives the length to lend. */
+uint64_t build_broken(unsigned number)
+{
+	build();
+	break_rule(number);
+	mend();
+	return number == 1 ? 71 : now.length;
+}

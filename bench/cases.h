@@ -1,0 +1,108 @@
+/* What the maker's files share: the plan of an image, the two buffers, and the five calls. */
+#ifndef BENCH_CASES_H
+#define BENCH_CASES_H
+
+#include <stdbool.h>
+#include <stddef.h>
+#include <stdint.h>
+#include <stdio.h>
+
+#define SPACE UINT64_C(131072)
+#define MOST 1025
+#define ANY UINT64_C(99)
+#define TWO24 UINT64_C(0x1000000)
+#define TWO32 UINT64_C(0x100000000)
+#define TWO63 UINT64_C(0x8000000000000000)
+#define COUNT(list) (sizeof(list) / sizeof((list)[0]))
+
+/* What an image is built from, in the letters of document 01. */
+struct plan {
+	uint64_t length, V, h, x, e;
+	uint64_t L, guard, more_section, more_file;
+	uint64_t header_revision, component, low12, identity, revision, base;
+	uint64_t n, table_length, table_reserved;
+	uint64_t gap, c, z, room, fill;
+	bool before;
+	uint64_t entry[MOST];
+};
+
+/* Where the parts of the planned image stand; g is the place of FSPE, or p without one. */
+struct spots {
+	uint64_t f, s, S, H, g, p, E;
+};
+
+/* build.c: buffer 0 (the image or vendor image), buffer 1 (the sheet or shipped file), the plan. */
+extern uint8_t image[SPACE];
+extern uint8_t sheet[SPACE];
+extern struct plan now;
+extern struct spots spot;
+extern const char letter[5];
+extern uint64_t cases;
+
+void fail(const char *what);
+void seed(uint64_t value);
+uint64_t below(uint64_t bound);
+uint64_t round_up(uint64_t value, uint64_t unit);
+void put(uint64_t at, uint64_t width, uint64_t value);
+uint64_t get(uint64_t at, uint64_t width);
+void text(uint64_t at, const char *what);
+void put_sheet(uint64_t at, uint64_t width, uint64_t value);
+uint64_t get_sheet(uint64_t at, uint64_t width);
+
+uint64_t word(uint64_t place, bool back, uint64_t bits, uint64_t type);
+uint64_t place_of(uint64_t k);
+uint64_t highest_base(void);
+uint64_t random_base(void);
+void lay_out(void);
+void settle(void);
+void fit(uint64_t tail);
+void mend_volume(void);
+void mend(void);
+void put_marks(uint64_t c);
+void build(void);
+void start_small(void);
+void small(unsigned k);
+void arrange(size_t i);
+void random_small(void);
+void break_rule(unsigned number);
+uint64_t broken_index(unsigned number);
+uint64_t build_broken(unsigned number);
+
+#define SMALLS 8
+#define ARRANGEMENTS 11
+
+/* stream.c: the records, each case as its difference from what was sent before. */
+enum call { CALL_NONE, CALL_READ, CALL_MOVE, CALL_APPLY, CALL_SETTING, CALL_AUDIT, CALLS };
+
+struct order {
+	enum call call;
+	uint64_t len, other, a, b;
+};
+
+void open_stream(FILE *to);
+void begin_part(uint64_t first_number, bool all_zero);
+void send_case(const struct order *order);
+void change_image(const uint8_t *bytes, uint64_t len);
+
+/* calls.c: one case of each call, with the number and index it is aimed at. */
+#define NUMBERS 21
+
+extern FILE *answers;
+extern uint64_t given[CALLS][NUMBERS];
+extern uint64_t explained;
+
+void show(uint64_t len, uint64_t number, uint64_t index);
+void show_move(uint64_t len, uint64_t base, uint64_t number, uint64_t index);
+void show_apply(uint64_t len, uint64_t other, uint64_t number, uint64_t index);
+void show_setting(uint64_t len, uint64_t offset, uint64_t size, uint64_t number);
+void show_audit(uint64_t len, uint64_t other, uint64_t places, uint64_t number, uint64_t index,
+		uint64_t settings, uint64_t strays);
+
+/* The five parts. */
+void read_part(void);
+void move_part(void);
+void apply_part(void);
+void setting_part(void);
+void audit_part(void);
+
+#endif

@@ -1,0 +1,174 @@
+// Reads records from standard input, does what each asks, and prints the answer and every lent byte afterwards. A record is a head of 40
+// bytes, which, at, count, call, len, other (32 bits each), a and b (64 bits each), and count bytes, which go into buffer `which` at `at`.
+// The image is the first len bytes of buffer 0, the other input the first `other` bytes of buffer 1.
+use libc::STDIN_FILENO;
+use libc::STDOUT_FILENO;
+
+struct Record {
+    which: usize,
+    at: usize,
+    count: usize,
+    call: usize,
+    len: usize,
+    other: usize,
+    a: usize,
+    b: usize,
+}
+
+fn field(n: u64) {
+    io::write_all(STDOUT_FILENO, b" ");
+    io::print_decimal(STDOUT_FILENO, n);
+}
+
+fn line() {
+    io::write_all(STDOUT_FILENO, b"\n");
+}
+
+fn names(k: image::Identity) {
+    field(k.image);
+    field(k.revision as u64);
+}
+
+fn places(r: image::Reading) {
+    field(r.base);
+    field(r.c as u64);
+    field(r.z as u64);
+    field(r.n as u64);
+    field(r.E as u64);
+}
+
+fn show_reading(r: image::Reading) {
+    io::print_decimal(STDOUT_FILENO, r.number as u64);
+    field(r.index as u64);
+    field(r.H as u64);
+    field(r.component as u64);
+    let k = r.identity;
+    names(k);
+    places(r);
+    line();
+}
+
+fn show_move(m: moving::Moved) {
+    io::print_decimal(STDOUT_FILENO, m.number as u64);
+    field(m.index as u64);
+    io::write_all(STDOUT_FILENO, b" ");
+    if m.distance < 0 {
+        io::write_all(STDOUT_FILENO, b"-");
+    }
+    io::print_decimal(STDOUT_FILENO, moving::magnitude(m.distance));
+    line();
+}
+
+fn show_bytes(bytes: &[u8]) {
+    io::write_all(STDOUT_FILENO, bytes);
+    line();
+}
+
+fn call_move(image: &mut [u8], base: u64) {
+    show_move(moving::move_image(image, base));
+    show_bytes(image);
+}
+
+fn call_apply(image: &mut [u8], sheet: &[u8]) {
+    let v = sheet::apply(image, sheet);
+    io::print_decimal(STDOUT_FILENO, v.number as u64);
+    field(v.index as u64);
+    line();
+    show_bytes(image);
+}
+
+fn call_setting(image: &[u8], offset: u64, size: u64) {
+    io::print_decimal(
+        STDOUT_FILENO,
+        sheet::setting_number(image, offset, size) as u64,
+    );
+    let part = sheet::setting(image, offset, size);
+    field(part.len() as u64);
+    line();
+    show_bytes(part);
+}
+
+// What the record asks of an image and the other input.
+fn answer(image: &mut [u8], other: &[u8], k: Record) {
+    let call = k.call;
+    if call == 1 {
+        show_reading(image::read(image));
+    } else if call == 2 {
+        call_move(image, k.a as u64);
+    } else if call == 3 {
+        call_apply(image, other);
+    } else if call == 4 {
+        call_setting(image, k.a as u64, k.b as u64);
+    }
+}
+
+// The bytes of a record go into a buffer.
+fn store(buffer: &mut [u8], at: usize, count: usize) {
+    if buffer.len() < at {
+        return;
+    }
+    if buffer.len() - at < count {
+        return;
+    }
+    let end = at + count;
+    io::read_full(STDIN_FILENO, &mut buffer[at..end]);
+}
+
+fn record_of(head: &[u8; 40]) -> Record {
+    Record {
+        which: words::le32(head, 0),
+        at: words::le32(head, 4),
+        count: words::le32(head, 8),
+        call: words::le32(head, 12),
+        len: words::le32(head, 16),
+        other: words::le32(head, 20),
+        a: words::le64(head, 24),
+        b: words::le64(head, 32),
+    }
+}
+
+// How many of a record's bytes go into this buffer.
+fn share(k: Record, which: usize) -> usize {
+    if k.which == which {
+        return k.count;
+    }
+    0
+}
+
+fn take(first: &mut [u8], second: &mut [u8], k: Record) {
+    store(first, k.at, share(k, 0));
+    store(second, k.at, share(k, 1));
+    let len = k.len;
+    let other = k.other;
+    if first.len() < len {
+        return;
+    }
+    if second.len() < other {
+        return;
+    }
+    answer(&mut first[0..len], &second[0..other], k);
+}
+
+// One record, or false at the end of them.
+fn step(first: &mut [u8], second: &mut [u8]) -> bool {
+    let mut head = [0u8; 40];
+    if io::read_full(STDIN_FILENO, &mut head) < 40 {
+        return false;
+    }
+    take(first, second, record_of(&head));
+    true
+}
+
+// A proved loop has to end: it counts its turns down from a number that no file of records uses up.
+fn run(first: &mut [u8], second: &mut [u8]) {
+    let mut turns = u64::MAX;
+    while turns > 0 && step(first, second) {
+        turns -= 1;
+    }
+}
+
+fn main() {
+    let mut first = [0u8; 131072];
+    let mut second = [0u8; 131072];
+    run(&mut first, &mut second);
+}

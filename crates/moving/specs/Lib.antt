@@ -1,0 +1,5 @@
+pub mod Moves
+pub mod MovesLaws
+pub mod Moving
+pub mod MovingLaws
+pub mod Theorems

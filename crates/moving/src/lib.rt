@@ -1,0 +1,96 @@
+// Document 01, "Moving".
+use image::Reading;
+ghost use mathlib.Core.Path.{_≡_};
+ghost use Prim.Native.Nat.{suc, _+_, _*_, _^_, _≤_, _<_};
+ghost use lib.IntN.{pos, _-ℤ_, natAbs};
+ghost use lib.ListN.{length};
+ghost use Rattle.image.specs.Guarantee.{Guaranteed};
+ghost use Rattle.moving.specs.Moves.{difference, moved};
+ghost use Rattle.moving.specs.Moving.{wordsAt, wordsOf, refusedMove, moving, movedImage};
+
+// The answer of a move: number 0 and the move, new base minus old; or the refusal's number and index.
+pub struct Moved {
+    pub number: u32,
+    pub index: usize,
+    pub distance: i64,
+}
+
+fn refused(number: u32, index: usize) -> Moved
+    ensures { λ r. ⌜ r ≡ refusedMove number index ⌝ }
+{
+    Moved {
+        number,
+        index,
+        distance: 0,
+    }
+}
+
+// Where the i-th word of a move stands: the base word, then each patch word.
+pub fn word_place(image: &[u8], r: Reading, i: usize) -> usize
+    requires { ⌜ (r .E ≤ length (now image)) × (r .H + 84 + 4 * r .n ≤ r .E) × (i ≤ r .n) ⌝ }
+    ensures { λ p. ⌜ p ≡ wordsAt (now (image .entry)) r i ⌝ }
+{
+    if i == 0 {
+        return r.H + 28;
+    }
+    table::point_at(image, r.E - 4 * r.n, i - 1).at
+}
+
+// Adds d, with wraparound, to each word of a move.
+fn move_words(image: &mut [u8], r: Reading, d: u32)
+    requires { ⌜ Guaranteed (now image) r ⌝ }
+    ensures { λ _. ⌜ now (image .exit) ≡ moved (now (image .entry)) (wordsOf (now (image .entry)) r) (λ w. d) ⌝ }
+{
+    let mut i = 0;
+    while i <= r.n {
+        let p = word_place(image, r, i);
+        words::add32(image, p, d);
+        i += 1;
+    }
+}
+
+// new minus old.
+fn distance(old: u64, new: u64) -> i64
+    requires { ⌜ (old ≤ 2 ^ 32) × (new ≤ 2 ^ 32) ⌝ }
+    ensures { λ r. ⌜ r ≡ pos new -ℤ pos old ⌝ }
+{
+    new as i64 - old as i64
+}
+
+// How far a move goes, up or down.
+pub fn magnitude(distance: i64) -> u64
+    ensures { λ r. ⌜ r ≡ natAbs distance ⌝ }
+{
+    if distance < 0 {
+        return (-1 - distance) as u64 + 1;
+    }
+    distance as u64
+}
+
+// new minus old, modulo 2^32.
+fn modular_difference(old: u64, new: u64) -> u32
+    requires { ⌜ (old < 2 ^ 32) × (new < 2 ^ 32) ⌝ }
+    ensures { λ r. ⌜ r ≡ difference old new 4 ⌝ }
+{
+    std::num::wrapping_sub_u32(new as u32, old as u32)
+}
+
+// Moves an image to a base, whatever both are, or refuses and changes nothing.
+pub fn move_image(image: &mut [u8], base: u64) -> Moved
+    ensures { λ r. ⌜ r ≡ moving (now (image .entry)) base ⌝ }
+    ensures { λ _. ⌜ now (image .exit) ≡ movedImage (now (image .entry)) base ⌝ }
+{
+    let r = image::read(image);
+    if r.number != 0 {
+        return refused(r.number, r.index);
+    }
+    if !header::legal(base, image.len()) {
+        return refused(18, 0);
+    }
+    move_words(image, r, modular_difference(r.base, base));
+    Moved {
+        number: 0,
+        index: 0,
+        distance: distance(r.base, base),
+    }
+}

@@ -1,0 +1,7 @@
+pub mod Sheet
+pub mod Applying
+pub mod PartLaws
+pub mod ApplyingLaws
+pub mod Setting
+pub mod SettingLaws
+pub mod Theorems

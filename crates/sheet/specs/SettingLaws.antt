@@ -1,0 +1,62 @@
+-- The part that a lookup hands back, case by case.
+-- Assumes nothing.
+use mathlib.Core.Path.{_≡_, refl, sym, ap, _∙_}
+use mathlib.Core.List.{List, []}
+use Prim.Native.Nat.{ℕ, _+_, _-_, _≤_, _<_, min}
+use native.Mathlib.Omega.{arith}
+use lib.ListN.{length, getD, take, drop, length-take, length-drop}
+use lib.Seq.{ext-getD, getD-take, getD-drop, length-take-le}
+use Rattle.facts.specs.Fact.{Holds, passes, fails}
+use Rattle.facts.specs.Rules.{Rules, answer, rule, run, by-test}
+use Rattle.image.specs.Reading.{reading}
+use Rattle.image.specs.After.{after-accepted, after-refused, changed-so, kept-so}
+use Rattle.image.specs.Guarantee.{Guaranteed, guaranteed}
+use Rattle.sheet.specs.Setting.{settingFits, regionPart, settingNumber, settingPart}
+
+-- a part of a part
+pub part-of-part : (xs : List ℕ) (c z offset size : ℕ) → c + z ≤ length xs → offset + size ≤ z → take size (drop offset (take z (drop c xs))) ≡ take size (drop (c + offset) xs)
+part-of-part xs c z offset size fits h =
+    ext-getD 0 (take size (drop offset (take z (drop c xs)))) (take size (drop (c + offset) xs)) (simp (length-take, length-drop) (omega arith))
+    (λ i l.
+    let hi : i < size = omega (arith, simp length-take at l) in
+    let e : c + (offset + i) ≡ c + offset + i = omega arith in
+    getD-take size (drop offset (take z (drop c xs))) i 0 hi ∙ getD-drop offset (take z (drop c xs)) i 0
+    ∙ getD-take z (drop c xs) (offset + i) 0 (omega arith) ∙ getD-drop c xs (offset + i) 0
+    ∙ ap (λ (k : ℕ). getD xs k 0) e
+    ∙ sym (getD-drop (c + offset) xs i 0) ∙ sym (getD-take size (drop (c + offset) xs) i 0 hi))
+
+-- the rules of a lookup
+abbrev setting-rules : List ℕ → ℕ → ℕ → Rules ℕ
+setting-rules xs offset size = rule 17 (settingFits offset size (reading xs .z)) (answer 0)
+
+module _ (xs : List ℕ) (offset size : ℕ) where
+  pub setting-unread : (reading xs .number ≡ 0 → ⊥) → (settingNumber xs offset size ≡ reading xs .number) × (settingPart xs offset size ≡ [])
+  unfolding settingNumber settingPart
+  setting-unread h =
+      let e : settingNumber xs offset size ≡ reading xs .number = after-refused (λ number index. number) (reading xs) (setting-rules xs offset size) h in
+      (e, kept-so (settingNumber xs offset size) (take size (drop (reading xs .c + offset) xs)) [] (λ z. h (sym e ∙ z)))
+
+  pub setting-refused : reading xs .number ≡ 0 → (Holds (settingFits offset size (reading xs .z)) → ⊥) → (settingNumber xs offset size ≡ 17) × (settingPart xs offset size ≡ [])
+  unfolding settingNumber settingPart run
+  setting-refused ok h =
+      let e : settingNumber xs offset size ≡ 17 = after-accepted (λ number index. number) (reading xs) (setting-rules xs offset size) ok ∙ rw (fails (settingFits offset size (reading xs .z)) h) in
+      (e, kept-so (settingNumber xs offset size) (take size (drop (reading xs .c + offset) xs)) [] (λ z. omega arith))
+
+  pub setting-accepted : reading xs .number ≡ 0 → Holds (settingFits offset size (reading xs .z)) → (settingNumber xs offset size ≡ 0) × (settingPart xs offset size ≡ take size (drop (reading xs .c + offset) xs))
+  unfolding settingNumber settingPart run
+  setting-accepted ok h =
+      let e : settingNumber xs offset size ≡ 0 = after-accepted (λ number index. number) (reading xs) (setting-rules xs offset size) ok ∙ rw (passes (settingFits offset size (reading xs .z)) h) in
+      (e, changed-so (settingNumber xs offset size) (take size (drop (reading xs .c + offset) xs)) [] e)
+
+-- the region's part, looked up, is the setting's part of the image
+pub region-part : (xs : List ℕ) (offset size : ℕ) → reading xs .number ≡ 0 → regionPart (take (reading xs .z) (drop (reading xs .c) xs)) offset size ≡ settingPart xs offset size
+region-part xs offset size ok =
+    let r = reading xs in
+    let g = guaranteed xs ok in
+    let region = take (r .z) (drop (r .c) xs) in
+    let long : length region ≡ r .z = length-take-le (r .z) (drop (r .c) xs) (rw length-drop (omega (arith, g))) in
+    by-test (λ (l : List ℕ). l ≡ settingPart xs offset size) (settingFits offset size (length region)) (take size (drop offset region)) []
+    (λ h.
+    let k : Holds (settingFits offset size (r .z)) = rw long at h in
+    part-of-part xs (r .c) (r .z) offset size (omega (arith, g)) (k .1 .1) ∙ sym (setting-accepted xs offset size ok k .1))
+    (λ h. sym (setting-refused xs offset size ok (rw long at h) .1))
