@@ -88,6 +88,63 @@ fn call_setting(image: &[u8], offset: u64, size: u64) {
     show_bytes(part);
 }
 
+fn show_audit(a: audit::Audited) {
+    io::print_decimal(STDOUT_FILENO, a.number as u64);
+    field(a.index as u64);
+    field(a.base);
+    field(a.settings as u64);
+    field(a.strays as u64);
+    field(a.bits as u64);
+    if a.explained {
+        field(1);
+    } else {
+        field(0);
+    }
+    line();
+}
+
+fn wide(x: u32) -> u64 {
+    x as u64
+}
+
+fn show_places(places: &[u32]) {
+    let mut i = 0;
+    while i < places.len() {
+        field(wide(places[i]));
+        i += 1;
+    }
+    line();
+}
+
+// What the list holds before an audit.
+fn held(i: usize) -> u32 {
+    if i < 4096 {
+        return 3000000000 + i as u32;
+    }
+    0
+}
+
+fn fill(places: &mut [u32]) {
+    let mut i = 0;
+    while i < places.len() {
+        places[i] = held(i);
+        i += 1;
+    }
+}
+
+fn audit_in(vendor: &[u8], shipped: &[u8], places: &mut [u32]) {
+    fill(places);
+    show_audit(audit::audit(vendor, shipped, places));
+    show_places(places);
+}
+
+fn call_audit(vendor: &[u8], shipped: &[u8], count: usize) {
+    let mut list = [0u32; 4096];
+    if count <= 4096 {
+        audit_in(vendor, shipped, &mut list[0..count]);
+    }
+}
+
 // What the record asks of an image and the other input.
 fn answer(image: &mut [u8], other: &[u8], k: Record) {
     let call = k.call;
@@ -99,6 +156,8 @@ fn answer(image: &mut [u8], other: &[u8], k: Record) {
         call_apply(image, other);
     } else if call == 4 {
         call_setting(image, k.a as u64, k.b as u64);
+    } else if call == 5 {
+        call_audit(image, other, k.a);
     }
 }
 

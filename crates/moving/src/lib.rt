@@ -68,7 +68,7 @@ pub fn magnitude(distance: i64) -> u64
 }
 
 // new minus old, modulo 2^32.
-fn modular_difference(old: u64, new: u64) -> u32
+pub fn modular_difference(old: u64, new: u64) -> u32
     requires { ⌜ (old < 2 ^ 32) × (new < 2 ^ 32) ⌝ }
     ensures { λ r. ⌜ r ≡ difference old new 4 ⌝ }
 {

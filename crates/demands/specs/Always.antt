@@ -1,0 +1,23 @@
+-- Demand 3: what the library itself makes of an image by moves and sheets, in any order, is explained, and the base named is the last one.
+-- Assumes nothing.
+use mathlib.Core.Bool.{true}
+use mathlib.Core.List.{List}
+use mathlib.Core.Path.{_≡_, sym, _∙_}
+use Prim.Native.Nat.{ℕ, _≤_}
+use lib.ListN.{length}
+use Rattle.facts.specs.Fact.{Holds}
+use Rattle.words.specs.Le.{Bytes}
+use Rattle.header.specs.Base.{legalBase}
+use Rattle.image.specs.Reading.{reading}
+use Rattle.audit.specs.Audit.{shippedBase, differing, auditing}
+use Rattle.demands.specs.Explains.{Explains}
+use Rattle.demands.specs.Explained.{explains-base, explains-told, told-counts}
+use Rattle.demands.specs.Made.{Made, made-explains}
+
+pub made-explained : (xs zs places : List ℕ) (base : ℕ) → reading xs .number ≡ 0 → Bytes xs → Made xs zs base → length (differing xs zs) ≤ length places
+    → (auditing xs zs (length places) .explained ≡ true) × (auditing xs zs (length places) .base ≡ base)
+made-explained xs zs places base ok bytes made room =
+    let e = made-explains xs ok bytes made .1 in
+    let same : base ≡ shippedBase xs zs = explains-base xs zs bytes ok base e in
+    let legal : Holds (legalBase (length xs) (shippedBase xs zs)) = rw same at (e .legal) in
+    (explains-told xs zs bytes ok places (e .long) legal room base e .1, told-counts xs zs places ok (e .long) legal room .1 ∙ sym same)

@@ -1,0 +1,384 @@
+-- The list of an audit, which positions it holds and how, and demand 3: what "explained" says. All of it is said of the audit that the
+-- promise of `audit` cites.
+-- Assumes nothing.
+use mathlib.Core.Path.{_≡_, refl, sym, ap, _∙_}
+use mathlib.Core.List.{List, [], _∷_, _++_}
+use mathlib.Core.Logic.{_⊎_, inl, inr}
+use mathlib.Core.Bool.{true, false}
+use Prim.Native.Nat.{ℕ, zero, suc, _+_, _-_, _≤_, _<_}
+use native.Mathlib.Omega.{arith}
+use native.Mathlib.Decide.{decLt, ℕ-discrete}
+use lib.ListN.{length, getD, take, drop, length-take, length-drop, List·getD-append, List·getD-eq-default}
+use lib.Seq.{ext-getD, sets, sets-eq, length-sets, getD-append-add, getD-take, getD-drop}
+use Rattle.facts.specs.Fact.{Fact, Holds, _≤?_, _≡?_, _and_, test, passes, fails, holds}
+use Rattle.facts.specs.Rules.{by-test}
+use Rattle.words.specs.Le.{le, Bytes}
+use Rattle.words.specs.LeLaws.{le-cong}
+use Rattle.header.specs.Base.{legalBase}
+use Rattle.image.specs.declared.Reading.{Reading}
+use Rattle.image.specs.Reading.{reading}
+use Rattle.image.specs.After.{changed-so, kept-so}
+use Rattle.image.specs.Guarantee.{guaranteed}
+use Rattle.moving.specs.Moving.{movedImage}
+use Rattle.moving.specs.MovingLaws.{moving-accepted}
+use Rattle.moving.specs.Theorems.{length-after, moved-reads}
+use Rattle.sheet.specs.PartLaws.{joined, length-joined, joined-low, joined-mid, joined-high}
+use Rattle.audit.specs.declared.Audited.{Audited}
+use Rattle.audit.specs.Differences.{agrees, differences, setting, entry, settings, strays, bits, entries}
+use Rattle.audit.specs.DifferenceLaws.{counts, length-entries}
+use Rattle.audit.specs.Audit.{shippedBase, reference, differing, tally, auditing, listed}
+use Rattle.audit.specs.AuditLaws.{audit-told}
+use Rattle.demands.specs.Explains.{Turns, Explains}
+
+-- any two answers that the promise of an audit admits are the same, and so are any two lists
+pub one-audit : (xs ys places : List ℕ) (a b : Audited) (l m : List ℕ) → a ≡ auditing xs ys (length places) → b ≡ auditing xs ys (length places)
+    → l ≡ listed xs ys places → m ≡ listed xs ys places → (a ≡ b) × (l ≡ m)
+one-audit xs ys places a b l m e f g h = (cc, cc)
+
+-- ---- the differing positions
+
+-- each element rises over those before it
+abbrev Rising : List ℕ → Type 0
+Rising l = (i j : ℕ) → i < j → j < length l → getD l i 0 < getD l j 0
+
+-- each element is one of the n positions from k on, and ys differs there from ref
+abbrev Stands : List ℕ → List ℕ → ℕ → ℕ → List ℕ → Type 0
+Stands ref ys k n l = (i : ℕ) → i < length l → (k ≤ getD l i 0) × (getD l i 0 < k + n) × (Holds (agrees ref ys (getD l i 0)) → ⊥)
+
+-- p is an element
+abbrev Has : ℕ → List ℕ → Type 0
+Has p l = (i : ℕ) × (i < length l) × (getD l i 0 ≡ p)
+
+module _ (ref ys : List ℕ) where
+  stands-more : (k n : ℕ) (l : List ℕ) → Stands ref ys (suc k) n l → Stands ref ys k (suc n) l
+  stands-more k n l s i h = let t = s i h in (omega arith, omega arith, t .2)
+
+  stands-cons : (k n : ℕ) (l : List ℕ) → (Holds (agrees ref ys k) → ⊥) → Stands ref ys (suc k) n l → Stands ref ys k (suc n) (k ∷ l)
+  stands-cons k n l e s zero h = (omega arith, omega arith, e)
+  stands-cons k n l e s (suc i) h = stands-more k n l s i (omega arith)
+
+  stands : (k n : ℕ) → Stands ref ys k n (differences ref ys k n)
+  unfolding differences
+  stands k zero = λ i h. absurd (omega arith)
+  stands k (suc n) =
+      let l = differences ref ys (suc k) n in
+      by-test (λ (m : List ℕ). Stands ref ys k (suc n) m) (agrees ref ys k) l (k ∷ l)
+      (λ e. stands-more k n l (stands (suc k) n)) (λ e. stands-cons k n l e (stands (suc k) n))
+
+  rising-cons : (k n : ℕ) (l : List ℕ) → Stands ref ys (suc k) n l → Rising l → Rising (k ∷ l)
+  rising-cons k n l s r i zero h g = absurd (omega arith)
+  rising-cons k n l s r zero (suc j) h g = let t = s j (omega arith) in omega arith
+  rising-cons k n l s r (suc i) (suc j) h g = r i j (omega arith) (omega arith)
+
+  rising : (k n : ℕ) → Rising (differences ref ys k n)
+  unfolding differences
+  rising k zero = λ i j h g. absurd (omega arith)
+  rising k (suc n) =
+      let l = differences ref ys (suc k) n in
+      by-test (λ (m : List ℕ). Rising m) (agrees ref ys k) l (k ∷ l) (λ e. rising (suc k) n) (λ e. rising-cons k n l (stands (suc k) n) (rising (suc k) n))
+
+  has-cons : (k p : ℕ) (l : List ℕ) → Has p l → Has p (k ∷ l)
+  has-cons k p l (i, h, e) = (suc i, omega arith, e)
+
+  has : (k n p : ℕ) → k ≤ p → p < k + n → (Holds (agrees ref ys p) → ⊥) → Has p (differences ref ys k n)
+  unfolding differences
+  has k zero p low high differs = absurd (omega arith)
+  has k (suc n) p low high differs =
+      let l = differences ref ys (suc k) n in
+      elim (ℕ-discrete k p) [
+        | yes e ↦
+            by-test (λ (m : List ℕ). Has p m) (agrees ref ys k) l (k ∷ l)
+            (λ h. absurd (differs (rw e at h))) (λ h. (0, omega arith, e))
+        | no e ↦
+            by-test (λ (m : List ℕ). Has p m) (agrees ref ys k) l (k ∷ l)
+            (λ h. has (suc k) n p (omega arith) (omega arith) differs) (λ h. has-cons k p l (has (suc k) n p (omega arith) (omega arith) differs))
+      ]
+
+module _ (xs ys : List ℕ) where
+  -- each differing position stands once, in order
+  pub ascending : (i j : ℕ) → i < j → j < length (differing xs ys) → getD (differing xs ys) i 0 < getD (differing xs ys) j 0
+  unfolding differing
+  ascending = rising (reference xs ys) ys 0 (length xs)
+
+  -- what stands there is a differing position
+  pub differs-at : (i : ℕ) → i < length (differing xs ys)
+      → (getD (differing xs ys) i 0 < length xs) × (getD ys (getD (differing xs ys) i 0) 0 ≡ getD (reference xs ys) (getD (differing xs ys) i 0) 0 → ⊥)
+  unfolding differing
+  differs-at i h = let t = stands (reference xs ys) ys 0 (length xs) i h in (omega arith, t .2)
+
+  -- and each differing position stands there
+  pub all-listed : (k : ℕ) → k < length xs → (getD ys k 0 ≡ getD (reference xs ys) k 0 → ⊥)
+      → (i : ℕ) × (i < length (differing xs ys)) × (getD (differing xs ys) i 0 ≡ k)
+  unfolding differing
+  all-listed k h differs = has (reference xs ys) ys 0 (length xs) k (omega arith) (omega arith) differs
+
+-- ---- what is counted and listed of them
+
+module _ (r : Reading) where
+  getD-entries : (ks : List ℕ) (i : ℕ) → i < length ks → getD (entries r ks) i 0 ≡ entry r (getD ks i 0)
+  unfolding entries
+  getD-entries [] i h = absurd (omega arith)
+  getD-entries (k ∷ ks) zero h = refl
+  getD-entries (k ∷ ks) (suc i) h = getD-entries ks i (omega arith)
+
+  -- where there are no strays each position is a setting
+  no-strays : (ks : List ℕ) → strays r ks ≡ 0 → (i : ℕ) → i < length ks → Holds (setting r (getD ks i 0))
+  unfolding strays
+  no-strays [] z i h = absurd (omega arith)
+  no-strays (k ∷ ks) z zero h =
+      by-test (λ (s : ℕ). s + strays r ks ≡ 0 → Holds (setting r k)) (setting r k) 0 1 (λ e z. e) (λ e z. absurd (omega arith)) z
+  no-strays (k ∷ ks) z (suc i) h = no-strays ks (omega arith) i (omega arith)
+
+  -- where each is a setting there are no strays
+  strays-none : (ks : List ℕ) → ((i : ℕ) → i < length ks → Holds (setting r (getD ks i 0))) → strays r ks ≡ 0
+  unfolding strays
+  strays-none [] s = refl
+  strays-none (k ∷ ks) s =
+      let rest = strays-none ks (λ i h. s (suc i) (omega arith)) in
+      rw (passes (setting r k) (s 0 (omega arith))) (omega arith)
+
+-- there is room for every difference, and there are no strays besides
+abbrev fitting : List ℕ → List ℕ → ℕ → Fact
+fitting xs ys room = settings (reading xs) (differing xs ys) + strays (reading xs) (differing xs ys) ≤? room
+
+abbrev clean : List ℕ → List ℕ → ℕ → Fact
+clean xs ys room = fitting xs ys room and strays (reading xs) (differing xs ys) ≡? 0
+
+-- the list is as long as it was
+pub length-listed : (xs ys places : List ℕ) → length (listed xs ys places) ≡ length places
+unfolding listed
+length-listed xs ys places =
+    let number = auditing xs ys (length places) .number in
+    let es = entries (reading xs) (differing xs ys) in
+    elim (ℕ-discrete number 0) [
+      | yes e ↦ rw (changed-so number (sets places 0 es) places e) (length-sets places 0 es)
+      | no e ↦ rw (kept-so number (sets places 0 es) places e)
+    ]
+
+module _ (xs ys places : List ℕ) (ok : reading xs .number ≡ 0) (long : length ys ≡ length xs) (legal : Holds (legalBase (length xs) (shippedBase xs ys))) where
+  told : auditing xs ys (length places) ≡ tally xs ys (length places)
+  told = audit-told xs ys places ok long legal
+
+  -- what it counts, whether there is room or not
+  pub told-always : (auditing xs ys (length places) .base ≡ shippedBase xs ys) × (auditing xs ys (length places) .settings ≡ settings (reading xs) (differing xs ys))
+      × (auditing xs ys (length places) .strays ≡ strays (reading xs) (differing xs ys)) × (auditing xs ys (length places) .bits ≡ bits (reference xs ys) ys (reading xs) (differing xs ys))
+  unfolding tally
+  told-always =
+      (ap (λ (a : Audited). a .base) told, ap (λ (a : Audited). a .settings) told, ap (λ (a : Audited). a .strays) told, ap (λ (a : Audited). a .bits) told)
+
+  module _ (room : length (differing xs ys) ≤ length places) where
+    fits : Holds (fitting xs ys (length places))
+    fits = rw counts room
+
+    told-number : auditing xs ys (length places) .number ≡ 0
+    unfolding tally
+    told-number =
+        ap (λ (a : Audited). a .number) told
+        ∙ rw (passes (fitting xs ys (length places)) fits)
+
+    -- the answer of an audit with room
+    pub told-counts : (auditing xs ys (length places) .number ≡ 0) × (auditing xs ys (length places) .base ≡ shippedBase xs ys)
+        × (auditing xs ys (length places) .settings ≡ settings (reading xs) (differing xs ys)) × (auditing xs ys (length places) .strays ≡ strays (reading xs) (differing xs ys))
+        × (auditing xs ys (length places) .bits ≡ bits (reference xs ys) ys (reading xs) (differing xs ys))
+    told-counts = (told-number, told-always .0, told-always .1, told-always .2, told-always .3)
+
+    stored : listed xs ys places ≡ entries (reading xs) (differing xs ys) ++ drop (length (differing xs ys)) places
+    unfolding listed
+    stored =
+        let es = entries (reading xs) (differing xs ys) in
+        let e : length es ≡ length (differing xs ys) = length-entries (reading xs) (differing xs ys) in
+        let z : 0 + length es ≡ length (differing xs ys) = omega arith in
+        changed-so (auditing xs ys (length places) .number) (sets places 0 es) places told-number
+        ∙ sets-eq es places 0 (omega arith)
+        ∙ rw z
+
+    -- the place of the i-th difference holds its entry
+    pub place-is : (i : ℕ) → i < length (differing xs ys) → getD (listed xs ys places) i 0 ≡ entry (reading xs) (getD (differing xs ys) i 0)
+    place-is i h =
+        rw stored (List·getD-append (entries (reading xs) (differing xs ys)) (drop (length (differing xs ys)) places) 0 i (rw length-entries h)
+        ∙ getD-entries (reading xs) (differing xs ys) i h)
+
+    -- "Places after the last entry keep what they held"
+    pub place-kept : (i : ℕ) → length (differing xs ys) ≤ i → getD (listed xs ys places) i 0 ≡ getD places i 0
+    place-kept i h =
+        let n = length (differing xs ys) in
+        let e : n + (i - n) ≡ i = omega arith in
+        rw stored (rw (length-entries, e) at (getD-append-add (entries (reading xs) (differing xs ys)) (drop n places) (i - n) 0)
+        ∙ getD-drop n places (i - n) 0 ∙ rw e)
+
+    -- it says "explained" exactly where there are no strays
+    says-explained : auditing xs ys (length places) .explained ≡ test (clean xs ys (length places))
+    unfolding tally
+    says-explained = ap (λ (a : Audited). a .explained) told
+
+    pub explained-strays : auditing xs ys (length places) .explained ≡ true → strays (reading xs) (differing xs ys) ≡ 0
+    explained-strays e = holds (clean xs ys (length places)) (sym says-explained ∙ e) .1
+
+    pub strays-explained : strays (reading xs) (differing xs ys) ≡ 0 → auditing xs ys (length places) .explained ≡ true
+    strays-explained z = says-explained ∙ passes (clean xs ys (length places)) (fits, z)
+
+  -- the answer of an audit without: "20 ROOM [..] carries base and all three counts and never "explained"", and the list keeps what it
+  -- held
+  pub too-short : length places < length (differing xs ys)
+      → (auditing xs ys (length places) .number ≡ 20) × (auditing xs ys (length places) .explained ≡ false) × (auditing xs ys (length places) .base ≡ shippedBase xs ys)
+      × (auditing xs ys (length places) .settings ≡ settings (reading xs) (differing xs ys)) × (auditing xs ys (length places) .strays ≡ strays (reading xs) (differing xs ys))
+      × (auditing xs ys (length places) .bits ≡ bits (reference xs ys) ys (reading xs) (differing xs ys)) × (listed xs ys places ≡ places)
+  unfolding tally listed
+  too-short short =
+      let p = fitting xs ys (length places) in
+      let over : Holds p → ⊥ = λ h. omega (arith, counts (reading xs) (differing xs ys)) in
+      let number : auditing xs ys (length places) .number ≡ 20 = ap (λ (a : Audited). a .number) told ∙ rw (fails p over) in (
+        number,
+        ap (λ (a : Audited). a .explained) told ∙ fails (clean xs ys (length places)) (λ h. over (h .0)),
+        told-always .0,
+        told-always .1,
+        told-always .2,
+        told-always .3,
+        kept-so (auditing xs ys (length places) .number) (sets places 0 (entries (reading xs) (differing xs ys))) places (λ z. omega arith),
+      )
+
+-- ---- demand 3
+
+module _ (xs ys : List ℕ) (bytes : Bytes xs) (ok : reading xs .number ≡ 0) where
+  -- after a move the base word holds the new base
+  new-base : (base : ℕ) → Holds (legalBase (length xs) base) → le 4 (movedImage xs base) (reading xs .H + 28) ≡ base
+  new-base base legal =
+      let reads = moved-reads xs bytes ok base legal in
+      let read : reading (movedImage xs base) .number ≡ 0 = ap (λ (r : Reading). r .number) reads ∙ ok in
+      sym (rw reads at (guaranteed (movedImage xs base) read .base-is))
+
+  -- so a pair is explained by no base but the shipped one
+  pub explains-base : (base : ℕ) → Explains xs ys base → base ≡ shippedBase xs ys
+  explains-base base ex =
+      let at = reading xs .H + 28 in
+      sym (le-cong 4 ys (movedImage xs base) at (record { same = λ j h. ex .same (at + j) (inl (omega (arith, guaranteed xs ok))) }) ∙ new-base base (ex .legal))
+
+  region : (base : ℕ) → Holds (legalBase (length xs) base) → reading xs .c + 32 + (reading xs .z - 32) ≤ length (movedImage xs base)
+  region base legal = rw (length-after xs bytes ok base legal) (omega (arith, guaranteed xs ok))
+
+  -- what bytes a legal base and setting bytes leave
+  pub turns-explains : (base : ℕ) (part : List ℕ) → Turns xs ys base part → Explains xs ys base
+  turns-explains base part t =
+      let from = reading xs .c + 32 in
+      let size = reading xs .z - 32 in
+      let fits = region base (t .legal) in
+      record {
+        legal = t .legal;
+        long = ap length (t .is) ∙ length-joined (movedImage xs base) from size part fits (t .long) ∙ length-after xs bytes ok base (t .legal);
+        same = λ k out. ap (λ (l : List ℕ). getD l k 0) (t .is) ∙ outside k out;
+      }
+    where
+      outside : (k : ℕ) → (k < reading xs .c + 32) ⊎ (reading xs .c + reading xs .z ≤ k)
+          → getD (joined (movedImage xs base) (reading xs .c + 32) (reading xs .z - 32) part) k 0 ≡ getD (movedImage xs base) k 0
+      outside k (inl h) = joined-low (movedImage xs base) (reading xs .c + 32) (reading xs .z - 32) part (region base (t .legal)) (t .long) k h
+      outside k (inr h) =
+          joined-high (movedImage xs base) (reading xs .c + 32) (reading xs .z - 32) part (region base (t .legal)) (t .long) k (omega (arith, guaranteed xs ok))
+
+  -- and the setting bytes that do it are the shipped file's own
+  pub explains-turns : (base : ℕ) → Explains xs ys base → Turns xs ys base (take (reading xs .z - 32) (drop (reading xs .c + 32) ys))
+  explains-turns base ex =
+      record {
+        legal = ex .legal;
+        long = own;
+        is = ext-getD 0 ys all (ex .long ∙ sym (length-after xs bytes ok base (ex .legal)) ∙ sym (length-joined (movedImage xs base) from size part (region base (ex .legal)) own)) byte;
+      }
+    where
+      from : ℕ
+      from = reading xs .c + 32
+
+      size : ℕ
+      size = reading xs .z - 32
+
+      part : List ℕ
+      part = take size (drop from ys)
+
+      all : List ℕ
+      all = joined (movedImage xs base) from size part
+
+      own : length part ≡ size
+      own = simp (length-take, length-drop) (omega (arith, guaranteed xs ok, ex .long))
+
+      byte : (k : ℕ) → k < length ys → getD ys k 0 ≡ getD all k 0
+      byte k h =
+          let m = movedImage xs base in
+          let inside = region base (ex .legal) in
+          elim (decLt k from) [
+            | yes low ↦ ex .same k (inl low) ∙ sym (joined-low m from size part inside own k low)
+            | no low ↦
+                elim (decLt k (from + size)) [
+                  | no high ↦ ex .same k (inr (omega (arith, guaranteed xs ok))) ∙ sym (joined-high m from size part inside own k (omega arith))
+                  | yes high ↦
+                      let j = k - from in
+                      let e : from + j ≡ k = omega arith in
+                      let hj : j < size = omega arith in
+                      rw e at (sym (joined-mid m from size part inside own j hj ∙ getD-take size (drop from ys) j 0 hj ∙ getD-drop from ys j 0))
+                ]
+          ]
+
+  module _ (places : List ℕ) (long : length ys ≡ length xs) (legal : Holds (legalBase (length xs) (shippedBase xs ys))) (room : length (differing xs ys) ≤ length places) where
+    reference-is : reference xs ys ≡ movedImage xs (shippedBase xs ys)
+    unfolding reference
+    reference-is = sym (moving-accepted xs (shippedBase xs ys) ok legal .1)
+
+    -- "explained" shows that the shipped file is the vendor image moved to its own base, but for setting bytes
+    pub explained-shows : auditing xs ys (length places) .explained ≡ true → Explains xs ys (shippedBase xs ys)
+    explained-shows e = record { legal = legal; long = long; same = byte }
+      where
+        none : strays (reading xs) (differing xs ys) ≡ 0
+        none = explained-strays xs ys places ok long legal room e
+
+        never : (k : ℕ) → (k < reading xs .c + 32) ⊎ (reading xs .c + reading xs .z ≤ k) → Holds (setting (reading xs) k) → ⊥
+        never k (inl h) s = omega arith
+        never k (inr h) s = omega arith
+
+        found : (k : ℕ) → (i : ℕ) × (i < length (differing xs ys)) × (getD (differing xs ys) i 0 ≡ k) → Holds (setting (reading xs) k)
+        found k (i, h, f) = rw f at (no-strays (reading xs) (differing xs ys) none i h)
+
+        byte : (k : ℕ) → (k < reading xs .c + 32) ⊎ (reading xs .c + reading xs .z ≤ k) → getD ys k 0 ≡ getD (movedImage xs (shippedBase xs ys)) k 0
+        byte k out =
+            elim (decLt k (length xs)) [
+              | no h ↦
+                  let here : length ys ≤ k = omega arith in
+                  let there : length (movedImage xs (shippedBase xs ys)) ≤ k = omega (arith, length-after xs bytes ok (shippedBase xs ys) legal) in
+                  List·getD-eq-default ys 0 here ∙ sym (List·getD-eq-default (movedImage xs (shippedBase xs ys)) 0 there)
+              | yes h ↦
+                  elim (ℕ-discrete (getD ys k 0) (getD (reference xs ys) k 0)) [
+                    | yes f ↦ f ∙ ap (λ (l : List ℕ). getD l k 0) reference-is
+                    | no f ↦ absurd (never k out (found k (all-listed xs ys k h f)))
+                  ]
+            ]
+
+    -- and where some legal base explains the pair the audit says so, with that base
+    pub explains-told : (base : ℕ) → Explains xs ys base → (base ≡ shippedBase xs ys) × (auditing xs ys (length places) .explained ≡ true)
+    explains-told base ex =
+        (explains-base base ex, strays-explained xs ys places ok long legal room (strays-none (reading xs) (differing xs ys) each))
+      where
+        same : (k : ℕ) → (k < reading xs .c + 32) ⊎ (reading xs .c + reading xs .z ≤ k) → getD ys k 0 ≡ getD (reference xs ys) k 0
+        same k out = ex .same k out ∙ ap (λ (b : ℕ). getD (movedImage xs b) k 0) (explains-base base ex) ∙ ap (λ (l : List ℕ). getD l k 0) (sym reference-is)
+
+        each : (i : ℕ) → i < length (differing xs ys) → Holds (setting (reading xs) (getD (differing xs ys) i 0))
+        each i h =
+            let k = getD (differing xs ys) i 0 in
+            let differs : getD ys k 0 ≡ getD (reference xs ys) k 0 → ⊥ = differs-at xs ys i h .1 in
+            elim (decLt k (reading xs .c + 32)) [
+              | yes low ↦ absurd (differs (same k (inl low)))
+              | no low ↦
+                  elim (decLt k (reading xs .c + reading xs .z)) [
+                    | yes high ↦ (omega arith, omega arith)
+                    | no high ↦ absurd (differs (same k (inr (omega arith))))
+                  ]
+            ]
+
+    -- "explained" exactly where some legal base and some setting bytes turn the vendor image into the shipped one, and the base is then
+    -- the answer's
+    pub demand-3 : (auditing xs ys (length places) .explained ≡ true → (base : ℕ) × (part : List ℕ) × Turns xs ys base part)
+        × ((base : ℕ) (part : List ℕ) → Turns xs ys base part → (auditing xs ys (length places) .explained ≡ true) × (auditing xs ys (length places) .base ≡ base))
+    demand-3 = (shown, told-so)
+      where
+        shown : auditing xs ys (length places) .explained ≡ true → (base : ℕ) × (part : List ℕ) × Turns xs ys base part
+        shown e = (shippedBase xs ys, take (reading xs .z - 32) (drop (reading xs .c + 32) ys), explains-turns (shippedBase xs ys) (explained-shows e))
+
+        told-so : (base : ℕ) (part : List ℕ) → Turns xs ys base part → (auditing xs ys (length places) .explained ≡ true) × (auditing xs ys (length places) .base ≡ base)
+        told-so base part t =
+            let x = explains-told base (turns-explains base part t) in
+            (x .1, told-always xs ys places ok long legal .0 ∙ sym (x .0))

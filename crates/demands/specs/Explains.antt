@@ -1,0 +1,24 @@
+-- Demand 3: "explained" exactly when some legal base and some setting bytes turn the vendor image into the shipped one.
+-- Assumes nothing.
+use Prim.Native.Nat.{ℕ, _+_, _-_, _≤_, _<_}
+use mathlib.Core.List.{List}
+use mathlib.Core.Logic.{_⊎_}
+use mathlib.Core.Path.{_≡_}
+use lib.ListN.{length, getD}
+use Rattle.facts.specs.Fact.{Holds}
+use Rattle.header.specs.Base.{legalBase}
+use Rattle.image.specs.Reading.{reading}
+use Rattle.moving.specs.Moving.{movedImage}
+use Rattle.sheet.specs.PartLaws.{joined}
+
+-- this legal base and these setting bytes, c+32..c+z-1, turn xs into ys
+pub record Turns (xs ys : List ℕ) (base : ℕ) (part : List ℕ) : Type 0 where
+  pub legal : Holds (legalBase (length xs) base)
+  pub long : length part ≡ reading xs .z - 32
+  pub is : ys ≡ joined (movedImage xs base) (reading xs .c + 32) (reading xs .z - 32) part
+
+-- the same byte by byte: outside the settings part ys is the vendor image moved to this base
+pub record Explains (xs ys : List ℕ) (base : ℕ) : Type 0 where
+  pub legal : Holds (legalBase (length xs) base)
+  pub long : length ys ≡ length xs
+  pub same : (k : ℕ) → (k < reading xs .c + 32) ⊎ (reading xs .c + reading xs .z ≤ k) → getD ys k 0 ≡ getD (movedImage xs base) k 0

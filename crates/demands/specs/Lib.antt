@@ -1,0 +1,4 @@
+pub mod Explains
+pub mod Made
+pub mod Explained
+pub mod Always

@@ -1,0 +1,173 @@
+-- What the library makes of the vendor image by accepted moves and sheets, in any order: the vendor image moved to the last base, but for
+-- the settings part.
+-- Assumes nothing.
+use mathlib.Core.Path.{_≡_, refl, sym, ap, _∙_}
+use mathlib.Core.List.{List}
+use mathlib.Core.Logic.{_⊎_, inl, inr}
+use Prim.Native.Nat.{ℕ, zero, suc, _+_, _-_, _%_, _^_, _≤_, _<_}
+use native.Mathlib.Omega.{arith}
+use lib.ListN.{length, getD}
+use Rattle.facts.specs.Fact.{Holds}
+use Rattle.words.specs.Le.{le, Bytes, Alike}
+use Rattle.words.specs.LeLaws.{le-cong}
+use Rattle.words.specs.PutLaws.{le-one}
+use Rattle.header.specs.Base.{legalBase}
+use Rattle.table.specs.PassesLaws.{place-cong}
+use Rattle.table.specs.declared.Place.{Place}
+use Rattle.image.specs.declared.Reading.{Reading}
+use Rattle.image.specs.Reading.{reading}
+use Rattle.image.specs.Guarantee.{guaranteed, entriesAt}
+use Rattle.image.specs.Frame.{rebased}
+use Rattle.image.specs.FrameBelow.{frame-below}
+use Rattle.moving.specs.Moves.{difference, Beside}
+use Rattle.moving.specs.MovesLaws.{find}
+use Rattle.moving.specs.Moving.{wordsAt, wordsOf, moving, movedImage}
+use Rattle.moving.specs.MovingLaws.{moving-shows}
+use Rattle.moving.specs.Theorems.{kept-byte, moved-number, length-after, bytes-after, moved-reads, moved-on, moved-nowhere}
+use Rattle.sheet.specs.Applying.{applying, appliedImage}
+use Rattle.sheet.specs.ApplyingLaws.{set-outside, applying-shows}
+use Rattle.sheet.specs.Theorems.{length-applied, bytes-applied}
+use Rattle.demands.specs.Explains.{Explains}
+
+-- the byte at k lies outside the settings part
+abbrev Outside : Reading → ℕ → Type 0
+Outside r k = (k < r .c + 32) ⊎ (r .c + r .z ≤ k)
+
+-- ---- two images that agree outside the settings part
+
+module _ (ys zs : List ℕ) (fine : reading ys .number ≡ 0) (long : length zs ≡ length ys)
+    (same : (k : ℕ) → Outside (reading ys) k → getD zs k 0 ≡ getD ys k 0) where
+  base-alike : le 4 zs (reading ys .H + 28) ≡ reading ys .base
+  base-alike =
+      let g = guaranteed ys fine in
+      le-cong 4 zs ys (reading ys .H + 28) (record { same = λ j h. same (reading ys .H + 28 + j) (inl (omega (arith, g))) }) ∙ sym (g .base-is)
+
+  -- they read alike
+  reads-alike : reading zs ≡ reading ys
+  reads-alike =
+      let g = guaranteed ys fine in
+      frame-below ys zs fine
+      (record {
+        long = sym long;
+        below = λ k h. sym (same k (inl (omega (arith, g))));
+        above = λ k h l. sym (same k (inl (omega (arith, g))));
+        marks = record { same = λ j h. sym (same (reading ys .c + 6 + j) (inl (omega arith))) };
+      })
+      (rw (base-alike, long) (g .legal))
+      ∙ ap (λ (w : ℕ). rebased (reading ys) w) base-alike
+
+  -- no byte of a word of a move lies in the settings part
+  word-alike : (j : ℕ) → j < suc (reading ys .n) → Alike zs ys (wordsAt ys (reading ys) j) 4
+  word-alike zero h = record { same = λ k l. same (reading ys .H + 28 + k) (inl (omega (arith, guaranteed ys fine))) }
+  word-alike (suc j) h = go (guaranteed ys fine .word-outside j (omega arith) .1)
+    where
+      w : ℕ
+      w = wordsAt ys (reading ys) (suc j)
+
+      go : (w + 4 ≤ reading ys .c) ⊎ (reading ys .c + reading ys .z ≤ w) → Alike zs ys w 4
+      go (inl a) = record { same = λ k l. same (w + k) (inl (omega arith)) }
+      go (inr a) = record { same = λ k l. same (w + k) (inr (omega arith)) }
+
+  -- the words stand at the same places, since the table is the same
+  words-alike : (j : ℕ) → j < suc (reading ys .n) → wordsAt zs (reading ys) j ≡ wordsAt ys (reading ys) j
+  words-alike zero h = refl
+  words-alike (suc j) h =
+      let t = entriesAt (reading ys) in
+      let g = guaranteed ys fine in
+      ap (λ (w : Place). w .at)
+      (place-cong zs ys t (reading ys .n) long (record { same = λ k l. same (t + k) (inl (omega (arith, g))) }) j (omega arith))
+
+  -- so they agree there after a move to one base
+  moves-alike : Bytes ys → Bytes zs → (next : ℕ) → Holds (legalBase (length ys) next) → (k : ℕ) → Outside (reading ys) k
+      → getD (movedImage zs next) k 0 ≡ getD (movedImage ys next) k 0
+  moves-alike by bz next legal k out = go (find (wordsOf ys (reading ys)) (suc (reading ys .n)) k)
+    where
+      fine′ : reading zs .number ≡ 0
+      fine′ = ap (λ (s : Reading). s .number) reads-alike ∙ fine
+
+      legal′ : Holds (legalBase (length zs) next)
+      legal′ = rw long legal
+
+      number : (j : ℕ) → j < suc (reading ys .n)
+          → le 4 (movedImage zs next) (wordsAt ys (reading ys) j) ≡ le 4 (movedImage ys next) (wordsAt ys (reading ys) j)
+      number j h =
+          let w = wordsAt ys (reading ys) j in
+          let d = difference (reading ys .base) next 4 in
+          let there : le 4 (movedImage zs next) w ≡ (le 4 zs w + d) % 2 ^ 32 = rw (reads-alike, words-alike j h) at (moved-number zs bz fine′ next legal′ j (rw reads-alike h)) in
+          there ∙ ap (λ (v : ℕ). (v + d) % 2 ^ 32) (le-cong 4 zs ys w (word-alike j h)) ∙ sym (moved-number ys by fine next legal j h)
+
+      go : ((j : ℕ) × (j < suc (reading ys .n)) × (wordsAt ys (reading ys) j ≤ k) × (k < wordsAt ys (reading ys) j + 4)) ⊎ Beside (wordsOf ys (reading ys)) (suc (reading ys .n)) k
+          → getD (movedImage zs next) k 0 ≡ getD (movedImage ys next) k 0
+      go (inl (j, h, low, high)) =
+          let w = wordsAt ys (reading ys) j in
+          let e : w + (k - w) ≡ k = omega arith in
+          rw e at (le-one 4 (movedImage zs next) (movedImage ys next) w (bytes-after zs bz fine′ next legal′) (bytes-after ys by fine next legal) (number j h) .same (k - w) (omega arith))
+      go (inr beside) =
+          let beside′ : Beside (wordsOf zs (reading ys)) (suc (reading ys .n)) k = λ j h. rw (words-alike j h) (beside j h) in
+          kept-byte zs bz fine′ next legal′ k (rw reads-alike beside′) ∙ same k out ∙ sym (kept-byte ys by fine next legal k beside)
+
+-- ---- what explains an image
+
+module _ (xs : List ℕ) (ok : reading xs .number ≡ 0) (bytes : Bytes xs) where
+  module _ (zs : List ℕ) (base : ℕ) (bz : Bytes zs) (e : Explains xs zs base) where
+    reads : reading (movedImage xs base) ≡ rebased (reading xs) base
+    reads = moved-reads xs bytes ok base (e .legal)
+
+    fine : reading (movedImage xs base) .number ≡ 0
+    fine = ap (λ (r : Reading). r .number) reads ∙ ok
+
+    long : length zs ≡ length (movedImage xs base)
+    long = e .long ∙ sym (length-after xs bytes ok base (e .legal))
+
+    same : (k : ℕ) → Outside (reading (movedImage xs base)) k → getD zs k 0 ≡ getD (movedImage xs base) k 0
+    same = rw reads (e .same)
+
+    -- the image reads as the vendor image does, but for the base
+    pub explained-reads : reading zs ≡ rebased (reading xs) base
+    explained-reads = reads-alike (movedImage xs base) zs fine long same ∙ reads
+
+    -- an image that was explained is so after a move, by the new base
+    pub explains-moved : (next : ℕ) → moving zs next .number ≡ 0 → Explains xs (movedImage zs next) next
+    explains-moved next goes =
+        let shown = moving-shows zs next goes in
+        let legal : Holds (legalBase (length xs) next) = rw (e .long) at (shown .1) in
+        let legal′ : Holds (legalBase (length (movedImage xs base)) next) = rw (length-after xs bytes ok base (e .legal)) legal in
+        record {
+          legal = legal;
+          long = length-after zs bz (shown .0) next (shown .1) ∙ e .long;
+          same = λ k out.
+              moves-alike (movedImage xs base) zs fine long same (bytes-after xs bytes ok base (e .legal)) bz next legal′ k (rw reads out)
+              ∙ ap (λ (l : List ℕ). getD l k 0) (moved-on xs bytes ok base (e .legal) next legal);
+        }
+
+    -- and after a sheet, by the same base
+    pub explains-applied : (s : List ℕ) → applying zs s .number ≡ 0 → Explains xs (appliedImage zs s) base
+    explains-applied s goes =
+        let (read, sound, names, after) = applying-shows zs s goes in
+        record {
+          legal = e .legal;
+          long = length-applied zs s goes ∙ e .long;
+          same = λ k out. rw after (set-outside zs (reading zs) s (guaranteed zs read) sound k (rw explained-reads out)) ∙ e .same k out;
+        }
+
+  -- the vendor image is explained by its own base
+  pub explains-start : Explains xs xs (reading xs .base)
+  explains-start =
+      record { legal = guaranteed xs ok .legal; long = refl; same = λ k out. ap (λ (l : List ℕ). getD l k 0) (sym (moved-nowhere xs bytes ok)) }
+
+-- what the library makes of xs by accepted moves and sheets in any order, and its last base
+pub data Made (xs : List ℕ) : List ℕ → ℕ → Type 0 where
+  start : Made xs xs (reading xs .base)
+  moved : {zs : List ℕ} {base : ℕ} → Made xs zs base → (next : ℕ) → moving zs next .number ≡ 0 → Made xs (movedImage zs next) next
+  set : {zs : List ℕ} {base : ℕ} → Made xs zs base → (s : List ℕ) → Bytes s → applying zs s .number ≡ 0 → Made xs (appliedImage zs s) base
+
+-- all of it is explained by that base
+pub made-explains : (xs : List ℕ) → reading xs .number ≡ 0 → Bytes xs → {zs : List ℕ} {base : ℕ} → Made xs zs base → Bytes zs × Explains xs zs base
+made-explains xs ok bytes start = (bytes, explains-start xs ok bytes)
+made-explains xs ok bytes (moved {zs} {base} m next goes) =
+    let (bz, e) = made-explains xs ok bytes m in
+    let shown = moving-shows zs next goes in
+    (bytes-after zs bz (shown .0) next (shown .1), explains-moved xs ok bytes zs base bz e next goes)
+made-explains xs ok bytes (set {zs} {base} m s bs goes) =
+    let (bz, e) = made-explains xs ok bytes m in
+    (bytes-applied zs s goes bz bs, explains-applied xs ok bytes zs base bz e s goes)
