@@ -26,7 +26,7 @@ pub struct Entry {
 }
 
 // Entry i of the sheet.
-pub fn entry_at(sheet: &[u8], i: usize) -> Entry
+fn entry_at(sheet: &[u8], i: usize) -> Entry
     requires { ⌜ (i < 256) × (16 + 8 * i + 8 ≤ length (now sheet)) ⌝ }
     ensures { λ r. ⌜ r ≡ entryAt (now (sheet .entry)) i ⌝ }
     ensures { λ r. ⌜ (r .offset < 4294967296) × (r .size < 65536) ⌝ }
@@ -40,7 +40,7 @@ pub fn entry_at(sheet: &[u8], i: usize) -> Entry
 }
 
 // Rule 15 for the contents.
-pub fn contents_fit(sheet: &[u8]) -> bool
+fn contents_fit(sheet: &[u8]) -> bool
     ensures { λ r. ⌜ Tells r (contentsFit (now (sheet .entry))) ⌝ }
 {
     if sheet.len() < 16 {
@@ -79,7 +79,7 @@ fn entry_fits(w: Entry, body: usize, last: usize) -> bool
 }
 
 // Rule 15 for the entries and their bodies.
-pub fn bodies_fit(sheet: &[u8]) -> bool
+fn bodies_fit(sheet: &[u8]) -> bool
     requires { ⌜ Holds (contentsFit (now sheet)) ⌝ }
     ensures { λ r. ⌜ Tells r (bodiesFit (now (sheet .entry))) ⌝ }
 {
@@ -103,7 +103,7 @@ pub fn bodies_fit(sheet: &[u8]) -> bool
 }
 
 // The identity that the sheet names.
-pub fn identity_of(sheet: &[u8]) -> Identity
+fn identity_of(sheet: &[u8]) -> Identity
     requires { ⌜ 16 ≤ length (now sheet) ⌝ }
     ensures { λ r. ⌜ r ≡ sheetIdentity (now (sheet .entry)) ⌝ }
 {
@@ -114,7 +114,7 @@ pub fn identity_of(sheet: &[u8]) -> Identity
 }
 
 // Rule 16: the one place where identities are compared.
-pub fn same_identity(a: Identity, b: Identity) -> bool
+fn same_identity(a: Identity, b: Identity) -> bool
     ensures { λ r. ⌜ Tells r (sameIdentity a b) ⌝ }
 {
     if a.image != b.image {
@@ -141,7 +141,7 @@ fn field_fits(w: Entry, z: usize) -> bool
 }
 
 // Rule 17.
-pub fn fields_fit(sheet: &[u8], z: usize) -> bool
+fn fields_fit(sheet: &[u8], z: usize) -> bool
     requires { ⌜ Holds (contentsFit (now sheet)) ⌝ }
     ensures { λ r. ⌜ Tells r (every (count (now (sheet .entry))) (fieldFits (now (sheet .entry)) z)) ⌝ }
 {
@@ -203,7 +203,7 @@ fn judge_names(sheet: &[u8], identity: Identity, z: usize) -> Applied
 }
 
 // Rules 15, 16 and 17 for an image of this identity with a region of z bytes: the sheet is judged whole.
-pub fn judge(sheet: &[u8], identity: Identity, z: usize) -> Applied
+fn judge(sheet: &[u8], identity: Identity, z: usize) -> Applied
     ensures { λ r. ⌜ r ≡ run applied (sheetRules identity z (now (sheet .entry))) ⌝ }
 {
     if !contents_fit(sheet) {

@@ -40,7 +40,7 @@ pub fn length_fits(image: &[u8]) -> bool
 }
 
 // The sum of the first n words of 16 bits.
-pub fn sum_words(image: &[u8], n: usize) -> usize
+fn sum_words(image: &[u8], n: usize) -> usize
     requires { ⌜ (2 * n ≤ length (now image)) × (n < 32768) ⌝ }
     ensures { λ r. ⌜ r ≡ sumWords (now (image .entry)) n ⌝ }
 {
