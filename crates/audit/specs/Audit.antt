@@ -1,20 +1,20 @@
 -- Document 01, "The audit".
 -- Assumes nothing.
-use Prim.Native.Nat.{ℕ, _+_}
-use mathlib.Core.Bool.{Bool, true, false, cond}
+use Prim.Native.Nat.{ℕ, _+_, _/_}
+use mathlib.Core.Bool.{false, cond}
 use mathlib.Core.List.{List}
 use lib.ListN.{length}
 use lib.Seq.{sets}
 use Rattle.facts.specs.Fact.{_≤?_, _≡?_, _and_, test}
-use Rattle.facts.specs.Rules.{Rules, answer, rule}
+use Rattle.facts.specs.Rules.{answer, rule}
 use Rattle.words.specs.Le.{le}
+use Rattle.words.specs.Put.{putAll}
 use Rattle.header.specs.Base.{legalBase}
-use Rattle.image.specs.declared.Reading.{Reading}
 use Rattle.image.specs.Reading.{reading}
 use Rattle.image.specs.After.{afterReading, unlessRefused}
 use Rattle.moving.specs.Moving.{moveTo}
 use Rattle.audit.specs.declared.Audited.{Audited}
-use Rattle.audit.specs.Differences.{differences, settings, strays, bits, entries}
+use Rattle.walk.specs.Differences.{differences, settings, strays, bits, entries}
 
 -- "the word at vendor H+28 in the shipped file"
 abbrev pub shippedBase : List ℕ → List ℕ → ℕ
@@ -60,3 +60,8 @@ auditing xs ys room =
 unfoldable pub listed : List ℕ → List ℕ → List ℕ → List ℕ
 listed xs ys places =
     unlessRefused (auditing xs ys (length places) .number) (sets places 0 (entries (reading xs) (differing xs ys))) places
+
+-- "there a place is four bytes, and bytes after the last whole place are kept"
+unfoldable pub listedBytes : List ℕ → List ℕ → List ℕ → List ℕ
+listedBytes xs ys bytes =
+    unlessRefused (auditing xs ys (length bytes / 4) .number) (putAll 4 bytes 0 (entries (reading xs) (differing xs ys))) bytes

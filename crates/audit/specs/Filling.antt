@@ -1,33 +1,63 @@
 -- What the listing walk keeps, and that a step of it lists what it passes.
 -- Assumes nothing.
-use mathlib.Core.Path.{_≡_, refl, sym, ap, _∙_}
-use mathlib.Core.List.{List, [], _∷_}
-use mathlib.Core.Bool.{Bool, true, false}
-use Prim.Native.Nat.{ℕ, suc, _+_, _-_, _≤_, _<_}
+use mathlib.Core.Path.{_≡_, refl, sym, _∙_}
+use mathlib.Core.List.{List, _∷_}
+use mathlib.Core.Bool.{true, false}
+use Prim.Native.Nat.{ℕ, _+_, _-_, _*_, _≤_, _<_}
 use native.Mathlib.Omega.{arith}
 use native.Mathlib.Numerals.{add-one}
 use lib.ListN.{length, set, length-set}
 use lib.Seq.{sets}
+use Rattle.words.specs.Put.{put, putAll}
+use Rattle.words.specs.PutLaws.{length-put}
 use Rattle.image.specs.declared.Reading.{Reading}
-use Rattle.audit.specs.declared.Step.{Step}
+use Rattle.walk.specs.declared.Ahead.{Ahead}
+use Rattle.walk.specs.declared.Step.{Step}
 use Rattle.audit.specs.declared.Fill.{Fill}
-use Rattle.audit.specs.Differences.{differences, entry, entries}
-use Rattle.audit.specs.Walk.{Stepped}
-use Rattle.audit.specs.DifferenceLaws.{rest, rest-over, rest-hit, rest-none}
+use Rattle.walk.specs.Differences.{entry, entries}
+use Rattle.walk.specs.Walk.{Stepped}
+use Rattle.walk.specs.DifferenceLaws.{rest, rest-over, rest-hit}
+
+-- how numbers are written in a list of places: one at a place, and those of a list from a place on
+pub record Writing : Type 0 where
+  pub one : List ℕ → ℕ → ℕ → List ℕ
+  pub all : List ℕ → ℕ → List ℕ → List ℕ
+  pub more : (l : List ℕ) (i v : ℕ) (vs : List ℕ) → all l i (v ∷ vs) ≡ all (one l i v) (i + 1) vs
+  pub long : (l : List ℕ) (i v : ℕ) → length (one l i v) ≡ length l
+
+-- a place is an element, or four bytes
+pub more-words : (l : List ℕ) (i v : ℕ) (vs : List ℕ) → sets l i (v ∷ vs) ≡ sets (set l i v) (i + 1) vs
+more-words l i v vs = rw add-one
+
+pub more-bytes : (l : List ℕ) (i v : ℕ) (vs : List ℕ) → putAll 4 l (4 * i) (v ∷ vs) ≡ putAll 4 (put 4 l (4 * i) v) (4 * (i + 1)) vs
+unfolding putAll
+more-bytes l i v vs = let e : 4 * (i + 1) ≡ 4 * i + 4 = omega arith in rw e
+
+abbrev pub inWords : Writing
+inWords = record { one = set; all = sets; more = more-words; long = length-set }
+
+abbrev pub inBytes : Writing
+inBytes =
+    record {
+      one = λ l i v. put 4 l (4 * i) v;
+      all = λ l i vs. putAll 4 l (4 * i) vs;
+      more = more-bytes;
+      long = λ l i v. length-put 4 l (4 * i) v;
+    }
 
 -- what is left has room
-abbrev pub Room : List ℕ → List ℕ → List ℕ → Fill → Type 0
-Room ref ys l f = f .count + length (rest ref ys (f .at)) ≤ length l
+abbrev pub Room : List ℕ → List ℕ → ℕ → Fill → Type 0
+Room ref ys room f = f .count + length (rest ref ys (f .at)) ≤ room
 
 -- u is f after a step, l the list before and m after it: filled and left together are what they were
-pub record Filled (ref ys : List ℕ) (r : Reading) (l m : List ℕ) (f u : Fill) : Type 0 where
+pub record Filled (w : Writing) (ref ys : List ℕ) (r : Reading) (l m : List ℕ) (f u : Fill) : Type 0 where
   pub onward : f .at < u .at
   pub most : u .at ≤ length ys
   pub long : length m ≡ length l
   pub room : u .count + length (rest ref ys (u .at)) ≡ f .count + length (rest ref ys (f .at))
-  pub kept : sets m (u .count) (entries r (rest ref ys (u .at))) ≡ sets l (f .count) (entries r (rest ref ys (f .at)))
+  pub kept : w .all m (u .count) (entries r (rest ref ys (u .at))) ≡ w .all l (f .count) (entries r (rest ref ys (f .at)))
 
-module _ (ref ys : List ℕ) (r : Reading) (l : List ℕ) (f : Fill) (s : Step) (stepped : Stepped ref ys (f .at) s) where
+module _ (w : Writing) (ref ys : List ℕ) (r : Reading) (l : List ℕ) (f : Fill) (s : Step) (stepped : Stepped ref ys (f .at) s) (q : Ahead) where
   left : rest ref ys (f .at) ≡ rest ref ys (s .at)
   left = rest-over ref ys (f .at) (s .at) (stepped .onward) (stepped .most) (stepped .clear)
 
@@ -35,7 +65,7 @@ module _ (ref ys : List ℕ) (r : Reading) (l : List ℕ) (f : Fill) (s : Step) 
   pub hit-first : s .hit ≡ true → rest ref ys (f .at) ≡ s .at ∷ rest ref ys (s .at + 1)
   hit-first hit = let h = stepped .found hit in left ∙ rest-hit ref ys (s .at) (h .0) (h .1)
 
-  pub fill-hit : s .hit ≡ true → Filled ref ys r l (set l (f .count) (entry r (s .at))) f (record { at = s .at + 1; word = s .word; count = f .count + 1 })
+  pub fill-hit : s .hit ≡ true → Filled w ref ys r l (w .one l (f .count) (entry r (s .at))) f (record { at = s .at + 1; ahead = q; count = f .count + 1 })
   unfolding entries
   fill-hit hit =
       let e = hit-first hit in
@@ -43,11 +73,11 @@ module _ (ref ys : List ℕ) (r : Reading) (l : List ℕ) (f : Fill) (s : Step) 
       record {
         onward = omega (arith, stepped .onward);
         most = omega (arith, h .0);
-        long = length-set l (f .count) (entry r (s .at));
+        long = w .long l (f .count) (entry r (s .at));
         room = rw e (omega arith);
-        kept = rw (e, add-one);
+        kept = rw e (sym (w .more l (f .count) (entry r (s .at)) (entries r (rest ref ys (s .at + 1)))));
       }
 
-  pub fill-on : s .hit ≡ false → Filled ref ys r l l f (record { at = s .at; word = s .word; count = f .count })
+  pub fill-on : s .hit ≡ false → Filled w ref ys r l l f (record { at = s .at; ahead = q; count = f .count })
   fill-on pass =
       record { onward = stepped .passed pass; most = stepped .most; long = refl; room = rw left; kept = rw left }

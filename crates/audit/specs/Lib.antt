@@ -1,10 +1,3 @@
-pub mod Differences
 pub mod Audit
-pub mod FlipLaws
-pub mod Walk
-pub mod WalkLaws
-pub mod DifferenceLaws
-pub mod Counting
-pub mod CountingLaws
 pub mod Filling
 pub mod AuditLaws

@@ -24,8 +24,8 @@ use Rattle.moving.specs.MovingLaws.{moving-accepted}
 use Rattle.moving.specs.Theorems.{length-after, moved-reads}
 use Rattle.sheet.specs.PartLaws.{joined, length-joined, joined-low, joined-mid, joined-high}
 use Rattle.audit.specs.declared.Audited.{Audited}
-use Rattle.audit.specs.Differences.{agrees, differences, setting, entry, settings, strays, bits, entries}
-use Rattle.audit.specs.DifferenceLaws.{counts, length-entries}
+use Rattle.walk.specs.Differences.{agrees, differences, setting, entry, settings, strays, bits, entries}
+use Rattle.walk.specs.DifferenceLaws.{counts, length-entries}
 use Rattle.audit.specs.Audit.{shippedBase, reference, differing, tally, auditing, listed}
 use Rattle.audit.specs.AuditLaws.{audit-told}
 use Rattle.demands.specs.Explains.{Turns, Explains}
@@ -157,7 +157,7 @@ length-listed xs ys places =
 
 module _ (xs ys places : List ℕ) (ok : reading xs .number ≡ 0) (long : length ys ≡ length xs) (legal : Holds (legalBase (length xs) (shippedBase xs ys))) where
   told : auditing xs ys (length places) ≡ tally xs ys (length places)
-  told = audit-told xs ys places ok long legal
+  told = audit-told xs ys (length places) ok long legal
 
   -- what it counts, whether there is room or not
   pub told-always : (auditing xs ys (length places) .base ≡ shippedBase xs ys) × (auditing xs ys (length places) .settings ≡ settings (reading xs) (differing xs ys))

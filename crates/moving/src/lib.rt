@@ -1,7 +1,7 @@
 // Document 01, "Moving".
 use image::Reading;
 ghost use mathlib.Core.Path.{_≡_};
-ghost use Prim.Native.Nat.{suc, _+_, _*_, _^_, _≤_, _<_};
+ghost use Prim.Native.Nat.{_+_, _*_, _^_, _≤_, _<_};
 ghost use lib.IntN.{pos, _-ℤ_, natAbs};
 ghost use lib.ListN.{length};
 ghost use Rattle.image.specs.Guarantee.{Guaranteed};

@@ -2,15 +2,16 @@
 -- Assumes nothing.
 use mathlib.Core.Path.{_≡_, refl, sym, ap, _∙_}
 use mathlib.Core.List.{List, []}
-use Prim.Native.Nat.{ℕ, _+_, _-_, _≤_, _<_, min}
+use Prim.Native.Nat.{ℕ, _+_, _-_, _≤_, _<_}
 use native.Mathlib.Omega.{arith}
+use native.Mathlib.Decide.{ℕ-discrete}
 use lib.ListN.{length, getD, take, drop, length-take, length-drop}
 use lib.Seq.{ext-getD, getD-take, getD-drop, length-take-le}
 use Rattle.facts.specs.Fact.{Holds, passes, fails}
-use Rattle.facts.specs.Rules.{Rules, answer, rule, run, by-test}
+use Rattle.facts.specs.Rules.{Rules, answer, rule, run, passed, by-test}
 use Rattle.image.specs.Reading.{reading}
 use Rattle.image.specs.After.{after-accepted, after-refused, changed-so, kept-so}
-use Rattle.image.specs.Guarantee.{Guaranteed, guaranteed}
+use Rattle.image.specs.Guarantee.{guaranteed}
 use Rattle.sheet.specs.Setting.{settingFits, regionPart, settingNumber, settingPart}
 
 -- a part of a part
@@ -47,6 +48,17 @@ module _ (xs : List ℕ) (offset size : ℕ) where
   setting-accepted ok h =
       let e : settingNumber xs offset size ≡ 0 = after-accepted (λ number index. number) (reading xs) (setting-rules xs offset size) ok ∙ rw (passes (settingFits offset size (reading xs .z)) h) in
       (e, changed-so (settingNumber xs offset size) (take size (drop (reading xs .c + offset) xs)) [] e)
+
+  -- what an accepted lookup has passed
+  pub setting-passed : settingNumber xs offset size ≡ 0 → (reading xs .number ≡ 0) × Holds (settingFits offset size (reading xs .z))
+  unfolding settingNumber
+  setting-passed e =
+      elim (ℕ-discrete (reading xs .number) 0) [
+        | no h ↦ absurd (h (sym (setting-unread h .0) ∙ e))
+        | yes ok ↦
+            let judged = after-accepted (λ number index. number) (reading xs) (setting-rules xs offset size) ok in
+            (ok, passed (λ number index. number) (λ (n : ℕ). n) (λ k i. refl) (setting-rules xs offset size) refl (sym judged ∙ e) .0)
+      ]
 
 -- the region's part, looked up, is the setting's part of the image
 pub region-part : (xs : List ℕ) (offset size : ℕ) → reading xs .number ≡ 0 → regionPart (take (reading xs .z) (drop (reading xs .c) xs)) offset size ≡ settingPart xs offset size

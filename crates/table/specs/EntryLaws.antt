@@ -1,11 +1,11 @@
 -- What placing an entry says.
 -- Assumes nothing.
 use Prim.Native.Nat.{ℕ, _+_, _-_, _/_, _%_, _^_, _≤_}
-use mathlib.Core.Logic.{_⊎_, inl, inr}
 use mathlib.Core.Path.{_≡_, refl}
 use native.Mathlib.Omega.{arith}
+use borrow.Author.Tests.{eqb-true, eqb-false}
 use lib.Dec.{eqb}
-use Rattle.facts.specs.Fact.{Fact, _≤?_}
+use Rattle.facts.specs.Fact.{_≤?_}
 use Rattle.facts.specs.Rules.{by-cond, by-test}
 use Rattle.table.specs.declared.Place.{Place}
 use Rattle.table.specs.Entry.{refusedPlace, typeFits, fitted, placeOf}
@@ -33,3 +33,29 @@ placed size w =
     by-test (Placed size) (2 ^ 24 - low ≤? size) _ _ (λ k. fitted-placed size (size - (2 ^ 24 - low)))
     (λ k. record { within = omega arith; fits = λ e. absurd (omega arith); numbers = λ a b. absurd (b refl) })))
     (λ h. record { within = omega arith; fits = λ e. absurd (omega arith); numbers = λ a b. absurd (a refl) })
+
+-- where an entry points that isn't refused
+pub record Spot (size w : ℕ) (p : Place) : Type 0 where
+  pub low : p .number ≡ 0 → w / 2 ^ 31 % 2 ≡ 0 → p .at ≡ w % 2 ^ 24
+  pub back : p .number ≡ 0 → (w / 2 ^ 31 % 2 ≡ 0 → ⊥) → (2 ^ 24 - w % 2 ^ 24 ≤ size) × (p .at ≡ size - (2 ^ 24 - w % 2 ^ 24))
+
+refused-spot : (size w k : ℕ) → (k ≡ 0 → ⊥) → Spot size w (refusedPlace k)
+refused-spot size w k h = record { low = λ e. absurd (h e); back = λ e. absurd (h e) }
+
+pub spot-of : (size w : ℕ) → Spot size w (placeOf size w)
+unfolding placeOf
+spot-of size w =
+    let low = w % 2 ^ 24 in
+    by-test (Spot size w) (typeFits w) _ _
+    (λ h.
+    by-cond (Spot size w) (eqb (w / 2 ^ 31 % 2) 0) _ _
+    (λ e.
+    by-test (Spot size w) (low + 4 ≤? size) _ _
+    (λ f. record { low = λ a b. refl; back = λ a b. absurd (b (eqb-true (w / 2 ^ 31 % 2) 0 e)) }) (λ f. refused-spot size w 13 (λ z. omega arith)))
+    (λ e.
+    by-test (Spot size w) (2 ^ 24 - low ≤? size) _ _
+    (λ k.
+    by-test (Spot size w) (size - (2 ^ 24 - low) + 4 ≤? size) _ _
+    (λ f. record { low = λ a b. absurd (eqb-false (w / 2 ^ 31 % 2) 0 e b); back = λ a b. (k, refl) })
+    (λ f. refused-spot size w 13 (λ z. omega arith))) (λ k. refused-spot size w 13 (λ z. omega arith))))
+    (λ h. refused-spot size w 12 (λ z. omega arith))

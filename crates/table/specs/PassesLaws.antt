@@ -1,19 +1,17 @@
 -- What the passes over the entries show, and what they look at.
 -- Assumes nothing.
-use Prim.Native.Nat.{ℕ, _+_, _*_, _≤_, _<_}
+use Prim.Native.Nat.{ℕ, _+_, _*_, _<_}
 use mathlib.Core.List.{List}
-use mathlib.Core.Path.{_≡_, refl}
+use mathlib.Core.Path.{_≡_}
 use native.Mathlib.Omega.{arith}
 use native.Mathlib.Nat.{add-assoc}
-use lib.ListN.{length, getD}
-use Rattle.facts.specs.Fact.{Fact, Holds, test, same-test}
+use lib.ListN.{length}
+use Rattle.facts.specs.Fact.{same-test}
 use Rattle.facts.specs.First.{firstFault, first-cong}
 use Rattle.words.specs.Le.{le, Alike}
 use Rattle.words.specs.LeLaws.{le-cong}
-use Rattle.table.specs.declared.Place.{Place}
-use Rattle.table.specs.Entry.{placeOf}
 use Rattle.table.specs.EntryLaws.{Placed, placed}
-use Rattle.table.specs.Passes.{place, unrefused, outside, apart, clear}
+use Rattle.table.specs.Passes.{place, unrefused, clear}
 
 pub place-placed : (xs : List ℕ) (t i : ℕ) → Placed (length xs) (place xs t i)
 unfolding place

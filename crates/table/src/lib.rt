@@ -1,6 +1,6 @@
 // Rules 9 and 12 to 14 of document 01: the patch table, where an entry points, and the scans over the entries.
 ghost use mathlib.Core.Path.{_≡_};
-ghost use Prim.Native.Nat.{_+_, _*_, _≤_, _<_};
+ghost use Prim.Native.Nat.{ℕ, _+_, _*_, _≤_, _<_};
 ghost use lib.ListN.{length};
 ghost use Rattle.facts.specs.Fact.{Tells};
 ghost use Rattle.facts.specs.First.{firstFault};
@@ -136,6 +136,27 @@ pub fn point_at(image: &[u8], t: usize, i: usize) -> Place
     point(words::le32(image, t + 4 * i), image.len())
 }
 
+// Where an entry points that isn't refused, with nothing left to judge: what the scans over pairs of entries ask.
+fn spot(entry: usize, size: usize) -> usize
+    requires { ⌜ placeOf size entry .number ≡ 0 ⌝ }
+    ensures { λ r. ⌜ r ≡ placeOf size entry .at ⌝ }
+{
+    let low = entry % 16777216;
+    let back = entry / 2147483648 % 2;
+    if back == 0 {
+        return low;
+    }
+    size - (16777216 - low)
+}
+
+// Where entry i of the table at t points, if it isn't refused.
+pub fn spot_at(image: &[u8], t: usize, i: usize) -> usize
+    requires { ⌜ (t + 4 * i + 4 ≤ length (now image)) × (place (now image) t i .number ≡ 0) ⌝ }
+    ensures { λ r. ⌜ r ≡ place (now (image .entry)) t i .at ⌝ }
+{
+    spot(words::le32(image, t + 4 * i), image.len())
+}
+
 // The first of n entries that is refused with this number, or n.
 pub fn first_refused(image: &[u8], t: usize, n: usize, number: u32) -> usize
     requires { ⌜ t + 4 * n ≤ length (now image) ⌝ }
@@ -183,9 +204,9 @@ fn is_apart(a: usize, b: usize) -> bool
     false
 }
 
-// Rule 14: the first of n entries whose word has a byte below E, in the configuration region, or in an earlier patch word, or n.
+// Rule 14, where 12 and 13 are passed: the first of n entries whose word has a byte below E, in the configuration region, or in an earlier patch word, or n.
 pub fn first_overlap(image: &[u8], t: usize, n: usize, c: usize, z: usize) -> usize
-    requires { ⌜ (t + 4 * n ≤ length (now image)) × (c + z ≤ length (now image)) ⌝ }
+    requires { ⌜ (t + 4 * n ≤ length (now image)) × (c + z ≤ length (now image)) × ((i : ℕ) → i < n → place (now image) t i .number ≡ 0) ⌝ }
     ensures { λ r. ⌜ r ≡ firstFault (clear (now (image .entry)) t (t + 4 * n) c z) n ⌝ }
 {
     let E = t + 4 * n;
@@ -200,7 +221,7 @@ pub fn first_overlap(image: &[u8], t: usize, n: usize, c: usize, z: usize) -> us
         }
         let mut j = 0;
         while j < i {
-            if !is_apart(a, point_at(image, t, j).at) {
+            if !is_apart(a, spot_at(image, t, j)) {
                 break 'entries i;
             }
             j += 1;

@@ -56,6 +56,21 @@ pub fn put32(s: &mut [u8], at: usize, w: u32)
     s[at + 3] = (w / 16777216 % 256) as u8;
 }
 
+// The 64-bit number w at `at`.
+pub fn put64(s: &mut [u8], at: usize, w: u64)
+    requires { ⌜ at + 8 ≤ length (now s) ⌝ }
+    ensures { λ _. ⌜ now (s .exit) ≡ put 8 (now (s .entry)) at w ⌝ }
+{
+    s[at] = (w % 256) as u8;
+    s[at + 1] = (w / 256 % 256) as u8;
+    s[at + 2] = (w / 65536 % 256) as u8;
+    s[at + 3] = (w / 16777216 % 256) as u8;
+    s[at + 4] = (w / 4294967296 % 256) as u8;
+    s[at + 5] = (w / 1099511627776 % 256) as u8;
+    s[at + 6] = (w / 281474976710656 % 256) as u8;
+    s[at + 7] = (w / 72057594037927936 % 256) as u8;
+}
+
 // The sum with wraparound.
 fn sum32(a: u32, b: u32) -> u32
     ensures { λ r. ⌜ r ≡ (a + b) % 2 ^ 32 ⌝ }

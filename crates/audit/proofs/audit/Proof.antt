@@ -1,121 +1,95 @@
-use Rattle.audit.specs.AuditLaws.{by-reference, tally-fits, tally-full, audit-unread, audit-unpaired, audit-illegal, audit-told}
-use Rattle.audit.specs.Counting.{Totals}
-use Rattle.audit.specs.DifferenceLaws.{counts, few}
-use Rattle.audit.specs.Walk.{by}
-use Rattle.audit.specs.Audit.{shippedBase, reference, differing, tally, auditing, listed}
-use Rattle.audit.specs.Differences.{differences, settings, strays, entries}
-use Rattle.audit.specs.declared.Tally.{Tally}
-use Rattle.audit.specs.declared.Audited.{Audited}
-use lib.Seq.{sets}
+use Rattle.audit.specs.AuditLaws.{accepted, fits, small, walked, unlisted}
+use Rattle.audit.specs.Audit.{differing, auditing, listed}
+use Rattle.walk.specs.Differences.{differences, entries}
+use Rattle.walk.specs.Walk.{by}
 use Rattle.moving.specs.Moves.{difference}
-use Rattle.image.specs.After.{changed-so, kept-so}
-use Rattle.image.specs.Guarantee.{Guaranteed, guaranteed}
+use Rattle.image.specs.After.{changed-so}
+use Rattle.image.specs.Guarantee.{guaranteed}
 use Rattle.image.specs.Reading.{reading}
 use Rattle.image.specs.declared.Reading.{Reading}
-use Rattle.header.specs.Base.{legalBase}
-use Rattle.facts.specs.Fact.{Holds, granted, refuted}
+use Rattle.facts.specs.Fact.{granted, refuted}
+use lib.Seq.{sets}
 use lib.ListN.{length}
-use Prim.Native.Nat.{ℕ, _+_, _≤_, _<_}
+use Prim.Native.Nat.{ℕ}
 use mathlib.Core.List.{List}
-use mathlib.Core.Path.{_≡_, refl, sym, ap, _∙_}
-use native.Mathlib.Omega.{arith}
+use mathlib.Core.Path.{_≡_, sym, ap, _∙_}
 use borrow.Author.Needs.{needs}
 use Rattle.audit.proofs.audit.Statement.{statement}
 use Rattle.audit.proofs.audit.Tie as tie
 
--- the header lies in both files
-header-in : (c : tie.After-struct-known2) →
-    let at-read = c .before .before .before .before in
-    at-read .read .result .H + 84 ≤ length (at-read .before .before .before .before .args .shipped .now)
-header-in c =
-    let at-read = c .before .before .before .before in
-    let start = at-read .before .before .before .before in
-    let e = at-read .read .ensures in
-    let g = guaranteed (start .args .vendor .now) (rw e at (c .before .before .if1 .left)) in
-    rw e (omega (arith, g, c .before .if2 .left))
+-- past the test the audit is accepted
+told : (c : tie.Else1) →
+    let a = c .before .before .before .before .before .before .before .args in
+    auditing (a .vendor .now) (a .shipped .now) (length (a .places .now)) .number ≡ 0
+told c =
+    let answer = c .before .before .survey .ensures in
+    rw answer at (granted (c .before .lists .ensures) (c .if1 .left) .0)
 
--- the base that is judged is the shipped one
-base : (c : tie.After-le32) →
-    let a = c .before .before .before .before .before .before .before .before .before .args in
-    c .le32 .result ≡ shippedBase (a .vendor .now) (a .shipped .now)
-base c = rw (c .before .before .before .before .before .read .ensures) at (c .le32 .ensures .is)
+-- what is walked is what differs
+all : (c : tie.After-modular-difference) →
+    let a = c .before .before .before .before .before .before .before .before .args in
+    differences (by (a .vendor .now) (c .before .before .before .before .read .result) (c .modular-difference .result)) (a .shipped .now) 0 (length (a .shipped .now)) ≡ differing (a .vendor .now) (a .shipped .now)
+all c =
+    let a = c .before .before .before .before .before .before .before .before .args in
+    let d = c .modular-difference .result in
+    let e = c .before .before .before .before .read .ensures in
+    let is-d : d ≡ difference (reading (a .vendor .now) .base) (auditing (a .vendor .now) (a .shipped .now) (length (a .places .now)) .base) 4 = rw (e, c .before .before .before .survey .ensures) at (c .modular-difference .ensures) in
+    ap (λ (q : Reading). differences (by (a .vendor .now) q d) (a .shipped .now) 0 (length (a .shipped .now))) e ∙ walked (a .vendor .now) (a .shipped .now) (length (a .places .now)) (told (c .before)) d is-d
 
 read-requires : tie.Need-read-requires
 read-requires c κs = search needs
 
-refused-requires : tie.Need-refused-requires
-refused-requires c κs = search needs
+survey-requires : tie.Need-survey-requires
+survey-requires c κs = search needs
+
+lists-requires : tie.Need-lists-requires
+lists-requires c κs = search needs
 
 returns : tie.Need-returns
+unfolding listed entries sets
 returns c =
     let a = c .before .before .before .before .before .before .before .args in
-    let e = c .before .before .before .read .ensures in
-    let law = audit-unread (a .vendor .now) (a .shipped .now) (a .places .now) (rw e at (c .before .if1 .taken)) in
-    (rw (law .0, ← e) (c .refused .ensures), sym (law .1))
+    let answer = c .before .before .survey .ensures in
+    let changed = sets (a .places .now) 0 (entries (reading (a .vendor .now)) (differing (a .vendor .now) (a .shipped .now))) in
+    (answer, sym (unlisted (a .vendor .now) (a .shipped .now) (length (a .places .now)) changed (a .places .now) (λ e. rw e) (rw answer at (refuted (c .before .lists .ensures) (c .if1 .taken)))))
 
-refused-requires-2 : tie.Need-refused-requires-2
-refused-requires-2 c κs = search needs
+modular-difference-requires : tie.Need-modular-difference-requires
+modular-difference-requires c κs =
+    let a = c .before .before .before .before .before .before .before .args in
+    let b = small (a .vendor .now) (a .shipped .now) (length (a .places .now)) (told c) in
+    (rw (c .before .before .before .read .ensures) (b .0), rw (c .before .before .survey .ensures) (b .1))
 
-returns-2 : tie.Need-returns-2
-returns-2 c =
-    let a = c .before .before .before .before .before .before .before .before .args in
-    let e = c .before .before .before .before .read .ensures in
-    let law = audit-unpaired (a .vendor .now) (a .shipped .now) (a .places .now) (rw e at (c .before .before .if1 .left)) (c .before .if2 .taken) in
-    (rw (law .0) (c .refused2 .ensures), sym (law .1))
-
-add-le32 : tie.Need-add-le32
-add-le32 c = omega (arith, header-in c)
-
-le32-requires : tie.Need-le32-requires
-le32-requires c κs = omega (arith, header-in c)
-
-legal-requires : tie.Need-legal-requires
-legal-requires c κs = search needs
-
-refused-requires-3 : tie.Need-refused-requires-3
-refused-requires-3 c κs = search needs
-
-returns-3 : tie.Need-returns-3
-returns-3 c =
-    let a = c .before .before .before .before .before .before .before .before .before .before .before .before .args in
-    let e = c .before .before .before .before .before .before .before .before .read .ensures in
-    let law = audit-illegal (a .vendor .now) (a .shipped .now) (a .places .now) (rw e at (c .before .before .before .before .before .before .if1 .left)) (c .before .before .before .before .before .if2 .left) (rw (base (c .before .before .before)) at (refuted (c .before .before .legal .ensures) (c .before .if3 .taken))) in
-    (rw (law .0) (c .refused3 .ensures), sym (law .1))
-
-tell-requires : tie.Need-tell-requires
-tell-requires c κs =
-    let e = c .before .before .before .before .before .before .before .before .read .ensures in
-    (e, rw e at (c .before .before .before .before .before .before .if1 .left), c .before .before .before .before .before .if2 .left, base (c .before .before .before), granted (c .before .before .legal .ensures) (c .before .if3 .left))
+fill-all-requires : tie.Need-fill-all-requires
+fill-all-requires c κs =
+    let a = c .before .before .before .before .before .before .before .before .before .args in
+    let ok = accepted (a .vendor .now) (a .shipped .now) (length (a .places .now)) (told (c .before .before)) in
+    (rw (c .before .before .before .before .before .read .ensures) (guaranteed (a .vendor .now) (ok .read)), ok .paired, rw (all (c .before)) (fits (a .vendor .now) (a .shipped .now) (length (a .places .now)) (told (c .before .before))))
 
 same-length : tie.Need-same-length
 same-length c = search needs
 
-returns-4 : tie.Need-returns-4
+returns-2 : tie.Need-returns-2
 unfolding listed
-returns-4 c =
-    let start = c .before .before .before .before .before .before .before .before .before .before .before .before .before .before .before in
-    let a = start .args in
-    let xs = a .vendor .now in
-    let ys = a .shipped .now in
-    let e = c .before .before .before .before .before .before .before .before .before .before .before .read .ensures in
-    let told = audit-told xs ys (a .places .now) (rw e at (c .before .before .before .before .before .before .before .before .before .if1 .left)) (c .before .before .before .before .before .before .before .before .if2 .left) (rw (base (c .before .before .before .before .before .before)) at (granted (c .before .before .before .before .before .legal .ensures) (c .before .before .before .before .if3 .left))) in
-    let answer : c .before .before .tell .result ≡ auditing xs ys (length (a .places .now)) = c .before .before .tell .ensures .0 ∙ sym told in
-    (answer, rw (answer, e) at (c .before .before .tell .ensures .1))
+returns-2 c =
+    let a = c .before .before .before .before .before .before .before .before .before .before .before .before .args in
+    let answer = c .before .before .before .before .before .before .before .survey .ensures in
+    let ks = differing (a .vendor .now) (a .shipped .now) in
+    let changed : List ℕ = sets (a .places .now) 0 (entries (reading (a .vendor .now)) ks) in (
+      answer,
+      c .before .before .fill-all .ensures ∙ ap (λ (ls : List ℕ). sets (a .places .now) 0 (entries (c .before .before .before .before .before .before .before .before .read .result) ls)) (all (c .before .before .before .before))
+          ∙ ap (λ (q : Reading). sets (a .places .now) 0 (entries q ks)) (c .before .before .before .before .before .before .before .before .read .ensures)
+          ∙ sym (changed-so (auditing (a .vendor .now) (a .shipped .now) (length (a .places .now)) .number) changed (a .places .now) (told (c .before .before .before .before .before))),
+    )
 
 pub audit-spec : {M : Type 1} → statement M
 audit-spec =
     tie.close
     (tie.spec
     read-requires
-    refused-requires
+    survey-requires
+    lists-requires
     returns
-    refused-requires-2
-    returns-2
-    add-le32
-    le32-requires
-    legal-requires
-    refused-requires-3
-    returns-3
-    tell-requires
+    modular-difference-requires
+    fill-all-requires
     same-length
-    returns-4)
+    returns-2)

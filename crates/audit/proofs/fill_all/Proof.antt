@@ -1,32 +1,32 @@
-use Rattle.audit.specs.Filling.{Room, Filled}
-use Rattle.audit.specs.DifferenceLaws.{rest, rest-none}
-use Rattle.audit.specs.Walk.{Reach, by}
-use Rattle.audit.specs.Differences.{differences, entries}
+use Rattle.audit.specs.Filling.{Room}
+use Rattle.walk.specs.DifferenceLaws.{rest, rest-none}
+use Rattle.walk.specs.Ahead.{Known}
+use Rattle.walk.specs.AheadLaws.{known-scanned}
+use Rattle.walk.specs.Walk.{by}
+use Rattle.walk.specs.Differences.{differences, entries}
 use lib.Seq.{sets}
 use lib.ListN.{length}
-use Prim.Native.Nat.{ℕ, _+_, _-_, _≤_}
-use mathlib.Core.Path.{_≡_, refl, sym, ap, _∙_}
-use mathlib.Core.List.{List, []}
+use Prim.Native.Nat.{_-_, _≤_}
+use mathlib.Core.Path.{_≡_, refl, _∙_}
 use native.Mathlib.Omega.{arith}
-use borrow.Author.Needs.{needs}
 use Rattle.audit.proofs.fill_all.Statement.{statement}
 use Rattle.audit.proofs.fill_all.Tie as tie
 
 abbrev Inv-loop : tie.InvT-loop
-Inv-loop vendor shipped places₀ r d f₀ places f = (f .at ≤ length vendor) × Reach vendor r (f .at) (f .word) × (length places ≡ length places₀) × Room (by vendor r d) shipped places f × (sets places (f .count) (entries r (rest (by vendor r d) shipped (f .at))) ≡ sets places₀ 0 (entries r (differences (by vendor r d) shipped 0 (length shipped))))
+Inv-loop vendor shipped places₀ r d f₀ places f = (f .at ≤ length vendor) × Known vendor r (f .at) (f .ahead) × (length places ≡ length places₀) × Room (by vendor r d) shipped (length places) f × (sets places (f .count) (entries r (rest (by vendor r d) shipped (f .at))) ≡ sets places₀ 0 (entries r (differences (by vendor r d) shipped 0 (length shipped))))
 
 abbrev μ-loop : tie.MeasureT-loop
 μ-loop vendor shipped places₀ r d f₀ places f = length vendor - f .at
 
-next-word-requires : tie.Need-next-word-requires Inv-loop μ-loop
-next-word-requires c κs = c .before .before .before .pre .0
+next-words-requires : tie.Need-next-words-requires Inv-loop μ-loop
+next-words-requires c κs = c .before .before .before .pre .0
 
 loop-holds : tie.Need-loop-holds Inv-loop μ-loop
 loop-holds c =
     let start = c .before .before .before .before in
     let ys = start .args .shipped .now in
     let e : length ys - 0 ≡ length ys = omega arith in
-    (omega arith, c .next-word .ensures .0, refl, rw e (omega (arith, start .pre .2)), rw e)
+    (omega arith, known-scanned (start .args .vendor .now) (start .args .r) 0 (c .next-words .result) (c .next-words .ensures), refl, rw e (omega (arith, start .pre .2)), rw e)
 
 fill-step-requires : tie.Need-fill-step-requires Inv-loop μ-loop
 fill-step-requires c κs =
@@ -59,7 +59,7 @@ fill-all-spec =
     (tie.spec
     Inv-loop
     μ-loop
-    next-word-requires
+    next-words-requires
     loop-holds
     fill-step-requires
     loop-less

@@ -1,23 +1,16 @@
-use Rattle.audit.specs.AuditLaws.{by-reference, tally-fits, tally-full, audit-unread, audit-unpaired, audit-illegal, audit-told}
-use Rattle.audit.specs.Counting.{Totals}
-use Rattle.audit.specs.DifferenceLaws.{counts, few}
-use Rattle.audit.specs.Walk.{by}
-use Rattle.audit.specs.Audit.{shippedBase, reference, differing, tally, auditing, listed}
-use Rattle.audit.specs.Differences.{differences, settings, strays, entries}
-use Rattle.audit.specs.declared.Tally.{Tally}
-use Rattle.audit.specs.declared.Audited.{Audited}
-use lib.Seq.{sets}
+use Rattle.audit.specs.AuditLaws.{by-reference, tally-fits, tally-full}
+use Rattle.walk.specs.Counting.{Totals}
+use Rattle.walk.specs.DifferenceLaws.{counts, few}
+use Rattle.walk.specs.Walk.{by}
+use Rattle.audit.specs.Audit.{shippedBase, reference}
+use Rattle.walk.specs.Differences.{differences}
 use Rattle.moving.specs.Moves.{difference}
-use Rattle.image.specs.After.{changed-so, kept-so}
 use Rattle.image.specs.Guarantee.{Guaranteed, guaranteed}
 use Rattle.image.specs.Reading.{reading}
 use Rattle.image.specs.declared.Reading.{Reading}
-use Rattle.header.specs.Base.{legalBase}
-use Rattle.facts.specs.Fact.{Holds, granted, refuted}
 use lib.ListN.{length}
-use Prim.Native.Nat.{ℕ, _+_, _≤_, _<_}
-use mathlib.Core.List.{List}
-use mathlib.Core.Path.{_≡_, refl, sym, ap, _∙_}
+use Prim.Native.Nat.{_+_, _≤_}
+use mathlib.Core.Path.{_≡_, sym, ap, _∙_}
 use native.Mathlib.Omega.{arith}
 use borrow.Author.Needs.{needs}
 use Rattle.audit.proofs.tell.Statement.{statement}
@@ -29,81 +22,61 @@ read c = rw (c .pre .0) (guaranteed (c .args .vendor .now) (c .pre .1))
 
 -- the reference that is walked is the one that is meant
 meant : (c : tie.After-count-all) →
-    let a = c .before .before .before .before .before .args in
+    let a = c .before .before .before .before .args in
     by (a .vendor .now) (a .r) (c .before .modular-difference .result) ≡ reference (a .vendor .now) (a .shipped .now)
 meant c =
-    let start = c .before .before .before .before .before in
+    let start = c .before .before .before .before in
     let a = start .args in
     let d = c .before .modular-difference .result in
     let is-d : d ≡ difference (reading (a .vendor .now) .base) (shippedBase (a .vendor .now) (a .shipped .now)) 4 = rw (start .pre .0, start .pre .3) at (c .before .modular-difference .ensures) in
     ap (λ (q : Reading). by (a .vendor .now) q d) (start .pre .0) ∙ by-reference (a .vendor .now) (a .shipped .now) d is-d
 
 totals : (c : tie.After-count-all) →
-    let a = c .before .before .before .before .before .args in
+    let a = c .before .before .before .before .args in
     Totals (reference (a .vendor .now) (a .shipped .now)) (a .shipped .now) (reading (a .vendor .now)) (c .count-all .result)
-totals c = rw (c .before .before .before .before .before .pre .0) at (rw (meant c) at (c .count-all .ensures))
+totals c = rw (c .before .before .before .before .pre .0) at (rw (meant c) at (c .count-all .ensures))
 
 -- as many as there are differences
 many : (c : tie.After-count-all) →
-    let a = c .before .before .before .before .before .args in
+    let a = c .before .before .before .before .args in
     c .count-all .result .settings + c .count-all .result .strays ≡ length (differences (by (a .vendor .now) (a .r) (c .before .modular-difference .result)) (a .shipped .now) 0 (length (a .shipped .now)))
 many c =
     let t = c .count-all .ensures in
     rw (t .settings-all, t .strays-all) (counts _ _)
 
 few-of : (c : tie.After-count-all) →
-    let a = c .before .before .before .before .before .args in
+    let a = c .before .before .before .before .args in
     length (differences (by (a .vendor .now) (a .r) (c .before .modular-difference .result)) (a .shipped .now) 0 (length (a .shipped .now))) ≤ length (a .shipped .now)
 few-of c = few _ _ 0 _
 
-same : (c : tie.After-count-all) →
-    let a = c .before .before .before .before .before .args in
-    differences (by (a .vendor .now) (a .r) (c .before .modular-difference .result)) (a .shipped .now) 0 (length (a .shipped .now)) ≡ differing (a .vendor .now) (a .shipped .now)
-unfolding differing
-same c = rw (meant c, c .before .before .before .before .before .pre .2)
-
 modular-difference-requires : tie.Need-modular-difference-requires
 modular-difference-requires c κs =
-    let g = read (c .before .before .before) in
-    omega (arith, g .legal, g .length-least, c .before .before .before .pre .4)
+    let g = read (c .before .before) in
+    omega (arith, g .legal, g .length-least, c .before .before .pre .4)
 
 count-all-requires : tie.Need-count-all-requires
-count-all-requires c κs = (read (c .before .before .before .before), c .before .before .before .before .pre .2)
+count-all-requires c κs = (read (c .before .before .before), c .before .before .before .pre .2)
 
 add-if1 : tie.Need-add-if1
-add-if1 c = omega (arith, many (c .before), few-of (c .before), c .before .before .before .before .before .before)
+add-if1 c = omega (arith, many (c .before), few-of (c .before), c .before .before .before .before .before)
 
 carry-requires : tie.Need-carry-requires
 carry-requires c κs = search needs
 
 returns : tie.Need-returns
 returns c =
-    let start = c .before .before .before .before .before .before .before .before in
+    let start = c .before .before .before .before .before .before .before in
     let a = start .args in
-    let e : c .carry .result ≡ tally (a .vendor .now) (a .shipped .now) (length (a .places .now)) = c .carry .ensures ∙ rw (start .pre .3) (sym (tally-full (a .vendor .now) (a .shipped .now) (length (a .places .now)) (c .before .before .before .count-all .result) (start .pre .2) (totals (c .before .before .before)) (c .before .if1 .taken))) in
-    (e, sym (kept-so (c .carry .result .number) (sets (a .places .now) 0 (entries (a .r) (differing (a .vendor .now) (a .shipped .now)))) (a .places .now) (λ z. let n = ap (λ (q : Audited). q .number) (c .carry .ensures) in omega arith)))
-
-fill-all-requires : tie.Need-fill-all-requires
-fill-all-requires c κs = (read (c .before .before .before .before .before .before .before .before), c .before .before .before .before .before .before .before .before .pre .2, omega (arith, many (c .before .before .before)))
+    c .carry .ensures ∙ rw (start .pre .3) (sym (tally-full (a .vendor .now) (a .shipped .now) (a .room) (c .before .before .before .count-all .result) (start .pre .2) (totals (c .before .before .before)) (c .before .if1 .taken)))
 
 carry-requires-2 : tie.Need-carry-requires-2
 carry-requires-2 c κs = search needs
 
-same-length : tie.Need-same-length
-same-length c = search needs
-
 returns-2 : tie.Need-returns-2
 returns-2 c =
-    let start = c .before .before .before .before .before .before .before .before .before .before .before .before .before in
+    let start = c .before .before .before .before .before .before .before .before in
     let a = start .args in
-    let xs = a .vendor .now in
-    let ys = a .shipped .now in
-    let e : c .carry2 .result ≡ tally xs ys (length (a .places .now)) = c .carry2 .ensures ∙ rw (start .pre .3) (sym (tally-fits xs ys (length (a .places .now)) (c .before .before .before .before .before .before .before .before .count-all .result) (start .pre .2) (totals (c .before .before .before .before .before .before .before .before)) (c .before .before .before .before .before .before .if1 .left))) in
-    let n : c .carry2 .result .number ≡ 0 = ap (λ (q : Audited). q .number) (c .carry2 .ensures) in (
-      e,
-      c .before .before .before .before .fill-all .ensures ∙ ap (λ (ks : List ℕ). sets (a .places .now) 0 (entries (a .r) ks)) (same (c .before .before .before .before .before .before .before .before))
-          ∙ sym (changed-so (c .carry2 .result .number) (sets (a .places .now) 0 (entries (a .r) (differing xs ys))) (a .places .now) n),
-    )
+    c .carry2 .ensures ∙ rw (start .pre .3) (sym (tally-fits (a .vendor .now) (a .shipped .now) (a .room) (c .before .before .before .before .count-all .result) (start .pre .2) (totals (c .before .before .before .before)) (c .before .before .if1 .left)))
 
 pub tell-spec : {M : Type 1} → statement M
 tell-spec =
@@ -114,7 +87,5 @@ tell-spec =
     add-if1
     carry-requires
     returns
-    fill-all-requires
     carry-requires-2
-    same-length
     returns-2)

@@ -1,3 +1,7 @@
+use Rattle.table.specs.PassesLaws.{place-placed}
+use Rattle.table.specs.Passes.{unrefused}
+use Rattle.facts.specs.First.{first}
+use native.Mathlib.Omega.{arith}
 use Rattle.facts.specs.Rules.{run}
 use borrow.Author.Tests.{lt-ltb, le-ltb}
 use Rattle.image.specs.Reading.{fromEntries}
@@ -34,7 +38,18 @@ returns-2 c =
     ) (c .refused2 .ensures)
 
 first-overlap-requires : tie.Need-first-overlap-requires
-first-overlap-requires c κs = search needs
+first-overlap-requires c κs =
+    let past = c .before .before in
+    let start = past .before .before .before in
+    let a = start .args in
+    let xs = a .image .now in (
+      start .pre .1,
+      start .pre .2,
+      λ i h.
+          place-placed xs (a .t) i .numbers
+          (first (unrefused 12 xs (a .t)) (a .n) .clear i (omega (arith, past .before .first-refused .ensures, past .if1 .left)))
+          (first (unrefused 13 xs (a .t)) (a .n) .clear i (omega (arith, c .before .first-refused2 .ensures, c .if2 .left))),
+    )
 
 refused-requires-3 : tie.Need-refused-requires-3
 refused-requires-3 c κs = search needs

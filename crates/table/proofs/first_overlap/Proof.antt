@@ -8,7 +8,7 @@ use Rattle.table.specs.declared.Place.{Place}
 use Rattle.facts.specs.First.{is-first}
 use Prim.Native.Nat.{ℕ, _+_, _-_, _*_, _≤_, _<_}
 use borrow.Author.Count.{below-more}
-use mathlib.Core.Path.{_≡_, ap, sym, _∙_}
+use mathlib.Core.Path.{_≡_}
 use native.Mathlib.Omega.{arith}
 use borrow.Author.Needs.{needs}
 use Rattle.table.proofs.first_overlap.Statement.{statement}
@@ -29,6 +29,9 @@ abbrev μ-entries : tie.MeasureT-entries
 -- an entry's place lies in the image
 small : (w : Place) (xs : List ℕ) (t i : ℕ) → w ≡ place xs t i → w .at ≤ length xs
 small w xs t i e = rw e (place-placed xs t i .within)
+
+near : (xs : List ℕ) (t i p : ℕ) → p ≡ place xs t i .at → p ≤ length xs
+near xs t i p e = rw e (place-placed xs t i .within)
 
 -- the entry at hand, past its first check and at a word apart from it
 beyond : (c : tie.Else2 Inv-loop μ-loop Inv-entries μ-entries) →
@@ -58,8 +61,10 @@ is-outside-requires c κs =
 loop-holds : tie.Need-loop-holds Inv-loop μ-loop Inv-entries μ-entries
 loop-holds c = (omega arith, λ k h. absurd (omega arith))
 
-point-at-requires-2 : tie.Need-point-at-requires-2 Inv-loop μ-loop Inv-entries μ-entries
-point-at-requires-2 c κs = search needs
+spot-at-requires : tie.Need-spot-at-requires Inv-loop μ-loop Inv-entries μ-entries
+spot-at-requires c κs =
+    let start = c .before .before .before .before .before .before .before .before in
+    (omega (arith, start .pre .0), start .pre .2 (c .before .loop .j) (omega arith))
 
 is-apart-requires : tie.Need-is-apart-requires Inv-loop μ-loop Inv-entries μ-entries
 is-apart-requires c κs =
@@ -70,7 +75,7 @@ is-apart-requires c κs =
     omega (
       arith,
       start,
-      small (c .point-at2 .result) xs (start .args .t) (at-loop .loop .j) (c .point-at2 .ensures),
+      near xs (start .args .t) (at-loop .loop .j) (c .spot-at .result) (c .spot-at .ensures),
       small (at-loop .before .before .before .point-at .result) xs (start .args .t) (at-entries .entries .i) (at-loop .before .before .before .point-at .ensures),
     )
 
@@ -85,7 +90,7 @@ loop-again c =
     let at-loop = c .before .before .before .before in (
       omega arith,
       below-more _ _ (at-loop .loop .inv .1)
-          (rw (at-loop .before .before .before .point-at .ensures, c .before .before .point-at2 .ensures) at (granted (c .before .is-apart .ensures) (c .if3 .left))),
+          (rw (at-loop .before .before .before .point-at .ensures, c .before .before .spot-at .ensures) at (granted (c .before .is-apart .ensures) (c .if3 .left))),
     )
 
 add-i : tie.Need-add-i Inv-loop μ-loop Inv-entries μ-entries
@@ -122,7 +127,7 @@ returns-3 c =
       clear = at-entries .entries .inv .1;
       fault = λ h p.
           refuted (c .before .is-apart .ensures) (c .if3 .taken)
-          (rw (at-loop .before .before .before .point-at .ensures, c .before .before .point-at2 .ensures) (p .1 (at-loop .loop .j) (omega arith)));
+          (rw (at-loop .before .before .before .point-at .ensures, c .before .before .spot-at .ensures) (p .1 (at-loop .loop .j) (omega arith)));
     })
 
 pub first-overlap-spec : {M : Type 1} → statement M
@@ -139,7 +144,7 @@ first-overlap-spec =
     point-at-requires
     is-outside-requires
     loop-holds
-    point-at-requires-2
+    spot-at-requires
     is-apart-requires
     add-j
     loop-less

@@ -1,10 +1,10 @@
-use Rattle.table.specs.Passes.{place, unrefused}
+use Rattle.table.specs.Passes.{unrefused}
 use Rattle.facts.specs.Fact.{Holds}
 use Rattle.table.specs.declared.Place.{Place}
 use Rattle.facts.specs.First.{is-first}
-use Prim.Native.Nat.{ℕ, _+_, _-_, _*_, _≤_, _<_}
+use Prim.Native.Nat.{ℕ, _-_, _≤_, _<_}
 use borrow.Author.Count.{below-more}
-use mathlib.Core.Path.{_≡_, ap, sym, _∙_}
+use mathlib.Core.Path.{ap, sym, _∙_}
 use native.Mathlib.Omega.{arith}
 use borrow.Author.Needs.{needs}
 use Rattle.table.proofs.first_refused.Statement.{statement}

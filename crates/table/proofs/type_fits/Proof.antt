@@ -1,6 +1,4 @@
 use mathlib.Core.Logic.{inl, inr, ⊎-elim}
-use native.Mathlib.Omega.{arith}
-use borrow.Author.Needs.{needs}
 use Rattle.table.proofs.type_fits.Statement.{statement}
 use Rattle.table.proofs.type_fits.Tie as tie
 

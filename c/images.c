@@ -1,0 +1,262 @@
+/* The builder of images, written for this folder alone. */
+#include "images.h"
+
+#include <string.h>
+
+#include "fields.h"
+
+static uint64_t state = 1;
+
+/* The sequence starts anew; a state of 0 would stay 0. */
+void numbers_from(uint64_t seed)
+{
+	state = seed * UINT64_C(0x9E3779B97F4A7C15) ^ UINT64_C(0xD1B54A32D192ED03);
+	if (state == 0)
+		state = 1;
+	for (int i = 0; i < 4; i++)
+		(void)any_number();
+}
+
+/* One number of 64 bits. */
+uint64_t any_number(void)
+{
+	state ^= state >> 12;
+	state ^= state << 25;
+	state ^= state >> 27;
+	return state * UINT64_C(2685821657736338717);
+}
+
+/* One number below a bound. */
+uint64_t below(uint64_t bound)
+{
+	return (any_number() >> 8) % bound;
+}
+
+/* Bytes of the sequence; what is longer than 4 KiB repeats them. */
+void fill_bytes(uint8_t *at, uint64_t length)
+{
+	const uint64_t first = length < 4096 ? length : 4096;
+	for (uint64_t i = 0; i < first; i += 8) {
+		const uint64_t number = any_number();
+		memcpy(at + i, &number, first - i < 8 ? first - i : 8);
+	}
+	for (uint64_t done = first; done < length;) {
+		const uint64_t more = length - done < done ? length - done : done;
+		memcpy(at + done, at, more);
+		done += more;
+	}
+}
+
+/* The plan all others start from. */
+void plan_plain(struct plan *plan)
+{
+	memset(plan, 0, sizeof *plan);
+	plan->h = 72;
+	plan->L = 72;
+	plan->header_revision = 3;
+	plan->component = 1;
+	plan->identity = UINT64_C(0x31302D5441455254);
+	plan->revision = 0x01020304;
+	plan->z = 64;
+}
+
+/* How many entries a drawn plan has: few, and sometimes up to the most. */
+static uint64_t drawn_count(void)
+{
+	const uint64_t kind = below(64);
+	return kind == 0 ? MOST_ENTRIES - below(3) : kind < 4 ? below(200) : below(8);
+}
+
+/* The size of the region: mostly small, and at both edges. */
+static uint64_t drawn_size(void)
+{
+	const uint64_t kind = below(32);
+	if (kind == 0)
+		return 65536 - below(2) * below(3);
+	if (kind < 4)
+		return 280 + below(1200);
+	return 32 + below(kind < 6 ? 3 : 300);
+}
+
+/* A plan with every part drawn. */
+void plan_drawn(struct plan *plan)
+{
+	plan_plain(plan);
+	plan->h = 72 + 2 * below(8);
+	if (below(2) == 0) {
+		plan->x = plan->h + below(9);
+		plan->e = 20 + below(12);
+	}
+	plan->L = below(8) == 0 ? 249 + below(8) : 72 + below(12);
+	plan->guard = below(16) == 0 ? 22 + below(3) : below(2) * (24 + below(9));
+	plan->more_section = below(6);
+	plan->more_file = below(6);
+	plan->header_revision = 3 + below(253);
+	plan->component = 1 + below(4);
+	plan->low12 = below(4096);
+	plan->identity = any_number();
+	plan->revision = below(TWO32);
+	plan->n = drawn_count();
+	plan->before = below(plan->n + 1);
+	plan->gap = below(3) == 0 ? 0 : below(24);
+	plan->z = drawn_size();
+}
+
+/* Rounding up to a multiple. */
+static uint64_t round_up(uint64_t value, uint64_t unit)
+{
+	return (value + unit - 1) / unit * unit;
+}
+
+/* Where the tables come to stand. */
+static void lay_tables(struct plan *plan)
+{
+	plan->f = round_up(plan->x != 0 ? plan->x + plan->e : plan->h, 8);
+	plan->H = plan->f + 28;
+	plan->g = round_up(plan->H + plan->L, 4);
+	plan->p = round_up(plan->g + plan->guard, 4);
+	plan->E = plan->p + 12 + 4 * plan->n;
+	plan->S = plan->E + plan->more_section - (plan->f + 24);
+	plan->s = 24 + plan->S + plan->more_file;
+}
+
+/* The words before the region, the region, the words after it; gives the end of the last part. */
+static uint64_t lay_words(struct plan *plan, uint64_t spread)
+{
+	uint64_t at = plan->E;
+	for (uint64_t k = 0; k < plan->n; k++) {
+		if (k == plan->before) {
+			plan->c = at + plan->gap;
+			at = plan->c + plan->z;
+		}
+		at += k == 0 || spread == 0 ? 0 : below(spread);
+		plan->place[k] = at;
+		at += 4;
+	}
+	if (plan->before >= plan->n) {
+		plan->c = at + plan->gap;
+		at = plan->c + plan->z;
+	}
+	return at;
+}
+
+/* The places in any order, as entries of both kinds. */
+static void lay_entries(struct plan *plan)
+{
+	for (uint64_t k = plan->n; k > 1; k--) {
+		const uint64_t other = below(k), kept = plan->place[other];
+		plan->place[other] = plan->place[k - 1];
+		plan->place[k - 1] = kept;
+	}
+	for (uint64_t k = 0; k < plan->n; k++) {
+		const uint64_t bits = below(8) << 28 | below(2) * 15 << 24;
+		const uint64_t back = TWO24 - plan->length + plan->place[k];
+		plan->entry[k] = (uint32_t)(bits | (below(2) == 0 ? plan->place[k]
+						    : UINT64_C(0x80000000) | back));
+	}
+}
+
+/* The layout; the words are spread where the image is long. */
+void lay_out(struct plan *plan, uint64_t at_least)
+{
+	lay_tables(plan);
+	uint64_t end = lay_words(plan, 0);
+	if (at_least > end && plan->n != 0)
+		end = lay_words(plan, (at_least - end) / plan->n + 1);
+	plan->length = end > at_least ? end : at_least;
+	plan->end = end;
+	plan->V = below(2) == 0 ? plan->length : plan->f + plan->s;
+	if (plan->V > plan->length)
+		plan->length = plan->V;
+	lay_entries(plan);
+}
+
+/* A legal base: any, the lowest or the highest. */
+uint64_t drawn_base(uint64_t length)
+{
+	const uint64_t highest = (TWO32 - (length > TWO24 ? TWO24 : length)) / 4096;
+	const uint64_t kind = below(8);
+	return 4096 * (kind == 0 ? 0 : kind == 1 ? highest : below(highest + 1));
+}
+
+/* The volume, the file and the section. */
+static void put_volume(const struct plan *plan, uint8_t *image)
+{
+	static const uint8_t name[16] = { 0xBE, 0x40, 0x27, 0x91, 0x84, 0x22, 0x34, 0x47,
+					  0xB9, 0x71, 0x84, 0xB0, 0x27, 0x35, 0x3F, 0x0C };
+	put_number(image, 32, 8, plan->V);
+	memcpy(image + 40, "_FVH", 4);
+	put_number(image, 48, 2, plan->h);
+	put_number(image, 52, 2, plan->x);
+	if (plan->x != 0)
+		put_number(image, plan->x + 16, 4, plan->e);
+	memcpy(image + plan->f, name, 16);
+	image[plan->f + 19] &= 0xFE;
+	put_number(image, plan->f + 20, 3, plan->s);
+	put_number(image, plan->f + 24, 3, plan->S);
+	image[plan->f + 27] = 0x19;
+}
+
+/* The FSP header. */
+static void put_header(const struct plan *plan, uint8_t *image)
+{
+	memcpy(image + plan->H, "FSPH", 4);
+	put_number(image, plan->H + 4, 4, plan->L);
+	put_number(image, plan->H + 11, 1, plan->header_revision);
+	put_number(image, plan->H + 12, 4, plan->revision);
+	put_number(image, plan->H + 16, 8, plan->identity);
+	put_number(image, plan->H + 24, 4, plan->length);
+	put_number(image, plan->H + 28, 4, plan->base);
+	put_number(image, plan->H + 34, 2, plan->component << 12 | plan->low12);
+	put_number(image, plan->H + 36, 4, plan->c);
+	put_number(image, plan->H + 40, 4, plan->z);
+}
+
+/* FSPE, the patch table and its entries. */
+static void put_table(const struct plan *plan, uint8_t *image)
+{
+	if (plan->guard != 0) {
+		memcpy(image + plan->g, "FSPE", 4);
+		put_number(image, plan->g + 4, 4, plan->guard);
+	}
+	memcpy(image + plan->p, "FSPP", 4);
+	image[plan->p + 6] = 1;
+	put_number(image, plan->p + 8, 4, plan->n);
+	for (uint64_t k = 0; k < plan->n; k++)
+		put_number(image, plan->p + 12 + 4 * k, 4, plan->entry[k]);
+}
+
+/* The sum of the volume's header; an odd h is rounded up or down, so that either misreading shows. */
+static void mend_volume(uint8_t *image, uint64_t length)
+{
+	uint64_t sum = 0, h = get_number(image, 48, 2);
+	h += h % 4 == 1 ? 1 : 0;
+	put_number(image, 50, 2, 0);
+	for (uint64_t i = 0; i + 2 <= h && i + 2 <= length; i += 2)
+		sum += get_number(image, i, 2);
+	put_number(image, 50, 2, 0 - sum);
+}
+
+/* The sum of the file's header, then that of the volume's, as far as the bytes are there. */
+void mend(const struct plan *plan, uint8_t *image, uint64_t length)
+{
+	uint64_t sum = 0;
+	if (length < 72 || plan->f + 24 > length)
+		return;
+	for (uint64_t i = 0; i < 24; i++)
+		if (i != 16 && i != 17 && i != 23)
+			sum += image[plan->f + i];
+	image[plan->f + 16] = (uint8_t)(0 - sum);
+	mend_volume(image, length);
+}
+
+/* The planned image; bytes no rule speaks of stay. */
+void build(const struct plan *plan, uint8_t *image)
+{
+	put_volume(plan, image);
+	put_header(plan, image);
+	put_table(plan, image);
+	image[plan->c + 6] = '_';
+	image[plan->c + 7] = (uint8_t)"?TMSI"[plan->component];
+	mend(plan, image, plan->length);
+}

@@ -1,0 +1,43 @@
+/* The builder of images that compare.c and speed.c share: a plan, its layout, its bytes. */
+#ifndef PAJURENDA_IMAGES_H
+#define PAJURENDA_IMAGES_H
+
+#include <stdint.h>
+
+#define MOST_ENTRIES 1024
+#define TWO24 UINT64_C(0x1000000)
+#define TWO32 UINT64_C(0x100000000)
+
+/* What an image is built from, in the letters of document 01; guard is the length of FSPE, or 0. */
+struct plan {
+	uint64_t length, V, h, x, e, L, guard, more_section, more_file;
+	uint64_t header_revision, component, low12, identity, revision, base;
+	uint64_t n, before, gap, c, z;
+	uint64_t f, s, S, H, g, p, E, end;
+	uint64_t place[MOST_ENTRIES];
+	uint32_t entry[MOST_ENTRIES];
+};
+
+/* The sequence of numbers: its start, one number, one below a bound. */
+void numbers_from(uint64_t seed);
+uint64_t any_number(void);
+uint64_t below(uint64_t bound);
+
+/* Bytes of the sequence; long parts repeat a block. */
+void fill_bytes(uint8_t *at, uint64_t length);
+
+/* A plan of fixed small parts, or of parts drawn from the sequence. */
+void plan_plain(struct plan *plan);
+void plan_drawn(struct plan *plan);
+
+/* The layout for at least a length, with the words spread up to the end. */
+void lay_out(struct plan *plan, uint64_t at_least);
+
+/* A legal base for an image of some length. */
+uint64_t drawn_base(uint64_t length);
+
+/* The planned parts written over the bytes that are there; then the two sums. */
+void build(const struct plan *plan, uint8_t *image);
+void mend(const struct plan *plan, uint8_t *image, uint64_t length);
+
+#endif

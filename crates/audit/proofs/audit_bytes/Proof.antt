@@ -1,0 +1,95 @@
+use Rattle.audit.specs.AuditLaws.{accepted, fits, small, walked, unlisted}
+use Rattle.audit.specs.Audit.{differing, auditing, listedBytes}
+use Rattle.walk.specs.Differences.{differences, entries}
+use Rattle.walk.specs.Walk.{by}
+use Rattle.moving.specs.Moves.{difference}
+use Rattle.image.specs.After.{changed-so}
+use Rattle.image.specs.Guarantee.{guaranteed}
+use Rattle.image.specs.Reading.{reading}
+use Rattle.image.specs.declared.Reading.{Reading}
+use Rattle.facts.specs.Fact.{granted, refuted}
+use Rattle.words.specs.Put.{putAll}
+use lib.ListN.{length}
+use Prim.Native.Nat.{ℕ, _/_}
+use mathlib.Core.List.{List}
+use mathlib.Core.Path.{_≡_, sym, ap, _∙_}
+use borrow.Author.Needs.{needs}
+use Rattle.audit.proofs.audit_bytes.Statement.{statement}
+use Rattle.audit.proofs.audit_bytes.Tie as tie
+
+-- past the test the audit is accepted
+told : (c : tie.Else1) →
+    let a = c .before .before .before .before .before .before .before .args in
+    auditing (a .vendor .now) (a .shipped .now) (length (a .places .now) / 4) .number ≡ 0
+told c =
+    let answer = c .before .before .survey .ensures in
+    rw answer at (granted (c .before .lists .ensures) (c .if1 .left) .0)
+
+-- what is walked is what differs
+all : (c : tie.After-modular-difference) →
+    let a = c .before .before .before .before .before .before .before .before .args in
+    differences (by (a .vendor .now) (c .before .before .before .before .read .result) (c .modular-difference .result)) (a .shipped .now) 0 (length (a .shipped .now)) ≡ differing (a .vendor .now) (a .shipped .now)
+all c =
+    let a = c .before .before .before .before .before .before .before .before .args in
+    let d = c .modular-difference .result in
+    let e = c .before .before .before .before .read .ensures in
+    let is-d : d ≡ difference (reading (a .vendor .now) .base) (auditing (a .vendor .now) (a .shipped .now) (length (a .places .now) / 4) .base) 4 = rw (e, c .before .before .before .survey .ensures) at (c .modular-difference .ensures) in
+    ap (λ (q : Reading). differences (by (a .vendor .now) q d) (a .shipped .now) 0 (length (a .shipped .now))) e ∙ walked (a .vendor .now) (a .shipped .now) (length (a .places .now) / 4) (told (c .before)) d is-d
+
+read-requires : tie.Need-read-requires
+read-requires c κs = search needs
+
+survey-requires : tie.Need-survey-requires
+survey-requires c κs = search needs
+
+lists-requires : tie.Need-lists-requires
+lists-requires c κs = search needs
+
+returns : tie.Need-returns
+unfolding listedBytes entries putAll
+returns c =
+    let a = c .before .before .before .before .before .before .before .args in
+    let answer = c .before .before .survey .ensures in
+    let changed = putAll 4 (a .places .now) 0 (entries (reading (a .vendor .now)) (differing (a .vendor .now) (a .shipped .now))) in
+    (answer, sym (unlisted (a .vendor .now) (a .shipped .now) (length (a .places .now) / 4) changed (a .places .now) (λ e. rw e) (rw answer at (refuted (c .before .lists .ensures) (c .if1 .taken)))))
+
+modular-difference-requires : tie.Need-modular-difference-requires
+modular-difference-requires c κs =
+    let a = c .before .before .before .before .before .before .before .args in
+    let b = small (a .vendor .now) (a .shipped .now) (length (a .places .now) / 4) (told c) in
+    (rw (c .before .before .before .read .ensures) (b .0), rw (c .before .before .survey .ensures) (b .1))
+
+fill-all-bytes-requires : tie.Need-fill-all-bytes-requires
+fill-all-bytes-requires c κs =
+    let a = c .before .before .before .before .before .before .before .before .before .args in
+    let ok = accepted (a .vendor .now) (a .shipped .now) (length (a .places .now) / 4) (told (c .before .before)) in
+    (rw (c .before .before .before .before .before .read .ensures) (guaranteed (a .vendor .now) (ok .read)), ok .paired, rw (all (c .before)) (fits (a .vendor .now) (a .shipped .now) (length (a .places .now) / 4) (told (c .before .before))))
+
+same-length : tie.Need-same-length
+same-length c = search needs
+
+returns-2 : tie.Need-returns-2
+unfolding listedBytes
+returns-2 c =
+    let a = c .before .before .before .before .before .before .before .before .before .before .before .before .args in
+    let answer = c .before .before .before .before .before .before .before .survey .ensures in
+    let ks = differing (a .vendor .now) (a .shipped .now) in
+    let changed : List ℕ = putAll 4 (a .places .now) 0 (entries (reading (a .vendor .now)) ks) in (
+      answer,
+      c .before .before .fill-all-bytes .ensures ∙ ap (λ (ls : List ℕ). putAll 4 (a .places .now) 0 (entries (c .before .before .before .before .before .before .before .before .read .result) ls)) (all (c .before .before .before .before))
+          ∙ ap (λ (q : Reading). putAll 4 (a .places .now) 0 (entries q ks)) (c .before .before .before .before .before .before .before .before .read .ensures)
+          ∙ sym (changed-so (auditing (a .vendor .now) (a .shipped .now) (length (a .places .now) / 4) .number) changed (a .places .now) (told (c .before .before .before .before .before))),
+    )
+
+pub audit-bytes-spec : {M : Type 1} → statement M
+audit-bytes-spec =
+    tie.close
+    (tie.spec
+    read-requires
+    survey-requires
+    lists-requires
+    returns
+    modular-difference-requires
+    fill-all-bytes-requires
+    same-length
+    returns-2)

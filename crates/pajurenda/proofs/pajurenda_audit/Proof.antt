@@ -1,0 +1,44 @@
+use Rattle.pajurenda.specs.AnswerLaws.{roomy, short}
+use Rattle.pajurenda.specs.Answers.{auditFields}
+use Rattle.audit.specs.declared.Audited.{Audited}
+use Rattle.words.specs.Put.{putAll}
+use mathlib.Core.Path.{sym, ap, _∙_}
+use borrow.Author.Needs.{needs}
+use Rattle.pajurenda.proofs.pajurenda_audit.Statement.{statement}
+use Rattle.pajurenda.proofs.pajurenda_audit.Tie as tie
+
+returns : tie.Need-returns
+returns c =
+    let A = c .before .before .before .before .before .args .answer .now in
+    let h = c .if1 .taken in
+    (sym (short 7 A _ _ h), (sym (short 7 A _ _ h), sym (short 7 A _ _ h)))
+
+audit-bytes-requires : tie.Need-audit-bytes-requires
+audit-bytes-requires c κs = search needs
+
+write-audited-requires : tie.Need-write-audited-requires
+write-audited-requires c κs = search needs
+
+same-length : tie.Need-same-length
+same-length c = search needs
+
+same-length-2 : tie.Need-same-length-2
+same-length-2 c = search needs
+
+returns-2 : tie.Need-returns-2
+returns-2 c =
+    let A = c .before .before .before .before .before .before .before .before .before .before .before .before .before .args .answer .now in
+    let h = c .before .before .before .before .before .before .before .before .if1 .left in
+    let e = c .before .before .before .before .before .before .audit-bytes .ensures .0 in
+    (ap (λ (q : Audited). q .number) e ∙ sym (roomy 7 A _ _ h), (c .before .before .before .before .before .before .audit-bytes .ensures .1 ∙ sym (roomy 7 A _ _ h), c .before .before .write-audited .ensures ∙ ap (λ (q : Audited). putAll 8 A 0 (auditFields q)) e ∙ sym (roomy 7 A _ _ h)))
+
+pub pajurenda-audit-spec : {M : Type 1} → statement M
+pajurenda-audit-spec =
+    tie.close
+    (tie.spec
+    returns
+    audit-bytes-requires
+    write-audited-requires
+    same-length
+    same-length-2
+    returns-2)

@@ -1,0 +1,62 @@
+-- The calls as C sees them: "The bench, written in C, calls read, move, apply and audit on numbers and byte slices". An answer is written in a
+-- lent buffer, eight bytes a field, the number first.
+-- Assumes nothing.
+use Prim.Native.Nat.{ℕ, suc, _+_, _-_, _*_, _^_}
+use mathlib.Core.Bool.{cond}
+use mathlib.Core.List.{List, [], _∷_}
+use lib.Dec.{eqb}
+use lib.IntN.{ℤ, pos, negsuc}
+use lib.ListN.{length}
+use Rattle.facts.specs.Fact.{_≤?_, test}
+use Rattle.words.specs.Put.{putAll}
+use Rattle.image.specs.declared.Reading.{Reading}
+use Rattle.image.specs.Reading.{reading}
+use Rattle.moving.specs.declared.Moved.{Moved}
+use Rattle.sheet.specs.declared.Applied.{Applied}
+use Rattle.sheet.specs.Setting.{settingNumber}
+use Rattle.audit.specs.declared.Audited.{Audited}
+use Rattle.pajurenda.specs.declared.Found.{Found}
+
+-- what a call gives where the buffer A has room for an answer of k fields, and what where it hasn't
+unfoldable pub ifRoom : {T : Type 0} → ℕ → List ℕ → T → T → T
+ifRoom k A x y = cond (test (8 * k ≤? length A)) x y
+
+-- the result: the answer's number, or 100 where there is no room
+abbrev pub result : ℕ → List ℕ → ℕ → ℕ
+result k A number = ifRoom k A number 100
+
+-- the answer buffer afterwards: the fields from its start on, and what it held after them; what it held where there is no room
+abbrev pub answered : List ℕ → List ℕ → List ℕ
+answered A fields = ifRoom (length fields) A (putAll 8 A 0 fields) A
+
+-- a signed number of 64 bits, in two's complement
+unfoldable pub twos : ℤ → ℕ
+twos (pos n) = n
+twos (negsuc n) = 2 ^ 64 - suc n
+
+abbrev pub readFields : Reading → List ℕ
+readFields r =
+    r .number ∷ r .index ∷ r .H ∷ r .component ∷ r .identity .image ∷ r .identity .revision ∷ r .base ∷ r .c ∷ r .z ∷ r .n ∷ r .E ∷ []
+
+abbrev pub moveFields : Moved → List ℕ
+moveFields r = r .number ∷ r .index ∷ twos (r .distance) ∷ []
+
+abbrev pub applyFields : Applied → List ℕ
+applyFields r = r .number ∷ r .index ∷ []
+
+-- where the part of the lent image that holds a setting starts, and its length; zeros where it is refused
+unfoldable pub finding : List ℕ → ℕ → ℕ → Found
+finding xs offset size =
+    let number = settingNumber xs offset size in
+    record {
+      number = number;
+      place = cond (eqb number 0) (reading xs .c + offset) 0;
+      length = cond (eqb number 0) size 0;
+    }
+
+abbrev pub settingFields : Found → List ℕ
+settingFields r = r .number ∷ r .place ∷ r .length ∷ []
+
+abbrev pub auditFields : Audited → List ℕ
+auditFields r =
+    r .number ∷ r .index ∷ r .base ∷ r .settings ∷ r .strays ∷ r .bits ∷ cond (r .explained) 1 0 ∷ []
