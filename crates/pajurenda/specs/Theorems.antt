@@ -16,8 +16,8 @@ use Rattle.walk.specs.Differences.{entries}
 use Rattle.walk.specs.DifferenceLaws.{length-entries}
 use Rattle.audit.specs.Audit.{differing, auditing, listedBytes}
 use Rattle.audit.specs.AuditLaws.{fits}
-use Rattle.pajurenda.specs.Answers.{ifRoom, result, answered, readFields, moveFields, applyFields, finding, settingFields, auditFields}
-use Rattle.pajurenda.specs.AnswerLaws.{roomy, short}
+use Rattle.answers.specs.Answers.{ifRoom, result, answered, readFields, moveFields, applyFields, finding, settingFields, auditFields}
+use Rattle.answers.specs.AnswerLaws.{roomy, short}
 
 -- ---- the answer's buffer
 

@@ -1,127 +1,12 @@
-// The library as C calls it: an answer is written in a lent buffer, eight bytes a field. The header is include/pajurenda.h.
-use audit::Audited;
-use image::Reading;
-use moving::Moved;
-use sheet::Applied;
+// The library as C calls it. Each answer is written in a lent buffer; the header is include/pajurenda.h.
 ghost use mathlib.Core.Path.{_≡_};
-ghost use Prim.Native.Nat.{_*_, _/_, _≤_};
+ghost use Prim.Native.Nat.{_/_};
 ghost use lib.ListN.{length};
-ghost use Rattle.words.specs.Put.{putAll};
 ghost use Rattle.image.specs.Reading.{reading};
 ghost use Rattle.moving.specs.Moving.{moving, movedImage};
 ghost use Rattle.sheet.specs.Applying.{applying, appliedImage};
 ghost use Rattle.audit.specs.Audit.{auditing, listedBytes};
-ghost use Rattle.pajurenda.specs.Answers.{ifRoom, result, answered, twos, readFields, moveFields, applyFields, finding, settingFields, auditFields};
-
-// The fields, eight bytes each, from the buffer's start on.
-fn write_fields(answer: &mut [u8], fields: &[u64])
-    requires { ⌜ 8 * length (now fields) ≤ length (now answer) ⌝ }
-    ensures { λ _. ⌜ now (answer .exit) ≡ putAll 8 (now (answer .entry)) 0 (now (fields .entry)) ⌝ }
-{
-    let mut i = 0;
-    while i < fields.len() {
-        words::put64(answer, 8 * i, fields[i]);
-        i += 1;
-    }
-}
-
-fn write_reading(answer: &mut [u8], r: Reading)
-    requires { ⌜ 88 ≤ length (now answer) ⌝ }
-    ensures { λ _. ⌜ now (answer .exit) ≡ putAll 8 (now (answer .entry)) 0 (readFields r) ⌝ }
-{
-    let identity = r.identity;
-    let fields = [
-        r.number as u64,
-        r.index as u64,
-        r.H as u64,
-        r.component as u64,
-        identity.image,
-        identity.revision as u64,
-        r.base,
-        r.c as u64,
-        r.z as u64,
-        r.n as u64,
-        r.E as u64,
-    ];
-    write_fields(answer, &fields);
-}
-
-// A signed number in two's complement.
-fn twos_complement(x: i64) -> u64
-    ensures { λ r. ⌜ r ≡ twos x ⌝ }
-{
-    let m = moving::magnitude(x);
-    if x < 0 {
-        return 18446744073709551615 - (m - 1);
-    }
-    m
-}
-
-fn write_moved(answer: &mut [u8], r: Moved)
-    requires { ⌜ 24 ≤ length (now answer) ⌝ }
-    ensures { λ _. ⌜ now (answer .exit) ≡ putAll 8 (now (answer .entry)) 0 (moveFields r) ⌝ }
-{
-    let fields = [r.number as u64, r.index as u64, twos_complement(r.distance)];
-    write_fields(answer, &fields);
-}
-
-fn write_applied(answer: &mut [u8], r: Applied)
-    requires { ⌜ 16 ≤ length (now answer) ⌝ }
-    ensures { λ _. ⌜ now (answer .exit) ≡ putAll 8 (now (answer .entry)) 0 (applyFields r) ⌝ }
-{
-    let fields = [r.number as u64, r.index as u64];
-    write_fields(answer, &fields);
-}
-
-// The answer of a lookup: number 0 and where in the image the setting stands, or the refusal's number and zeros.
-pub struct Found {
-    pub number: u32,
-    pub place: u64,
-    pub length: u64,
-}
-
-fn find(image: &[u8], offset: u64, size: u64) -> Found
-    ensures { λ r. ⌜ r ≡ finding (now (image .entry)) offset size ⌝ }
-{
-    let number = sheet::setting_number(image, offset, size);
-    if number != 0 {
-        return Found {
-            number,
-            place: 0,
-            length: 0,
-        };
-    }
-    let r = image::read(image);
-    Found {
-        number,
-        place: r.c as u64 + offset,
-        length: size,
-    }
-}
-
-fn write_found(answer: &mut [u8], r: Found)
-    requires { ⌜ 24 ≤ length (now answer) ⌝ }
-    ensures { λ _. ⌜ now (answer .exit) ≡ putAll 8 (now (answer .entry)) 0 (settingFields r) ⌝ }
-{
-    let fields = [r.number as u64, r.place, r.length];
-    write_fields(answer, &fields);
-}
-
-fn write_audited(answer: &mut [u8], r: Audited)
-    requires { ⌜ 56 ≤ length (now answer) ⌝ }
-    ensures { λ _. ⌜ now (answer .exit) ≡ putAll 8 (now (answer .entry)) 0 (auditFields r) ⌝ }
-{
-    let fields = [
-        r.number as u64,
-        r.index as u64,
-        r.base,
-        r.settings as u64,
-        r.strays as u64,
-        r.bits as u64,
-        r.explained as u64,
-    ];
-    write_fields(answer, &fields);
-}
+ghost use Rattle.answers.specs.Answers.{ifRoom, result, answered, readFields, moveFields, applyFields, finding, settingFields, auditFields};
 
 // Reads an image.
 #[no_mangle]
@@ -133,7 +18,7 @@ pub extern "C" fn pajurenda_read(image: &[u8], answer: &mut [u8]) -> u32
         return 100;
     }
     let r = image::read(image);
-    write_reading(answer, r);
+    answers::write_reading(answer, r);
     r.number
 }
 
@@ -148,7 +33,7 @@ pub extern "C" fn pajurenda_move(image: &mut [u8], base: u64, answer: &mut [u8])
         return 100;
     }
     let r = moving::move_image(image, base);
-    write_moved(answer, r);
+    answers::write_moved(answer, r);
     r.number
 }
 
@@ -163,7 +48,7 @@ pub extern "C" fn pajurenda_apply(image: &mut [u8], sheet: &[u8], answer: &mut [
         return 100;
     }
     let r = sheet::apply(image, sheet);
-    write_applied(answer, r);
+    answers::write_applied(answer, r);
     r.number
 }
 
@@ -176,8 +61,8 @@ pub extern "C" fn pajurenda_setting(image: &[u8], offset: u64, size: u64, answer
     if answer.len() < 24 {
         return 100;
     }
-    let r = find(image, offset, size);
-    write_found(answer, r);
+    let r = answers::find(image, offset, size);
+    answers::write_found(answer, r);
     r.number
 }
 
@@ -197,6 +82,6 @@ pub extern "C" fn pajurenda_audit(
         return 100;
     }
     let r = audit::audit_bytes(vendor, shipped, places);
-    write_audited(answer, r);
+    answers::write_audited(answer, r);
     r.number
 }

@@ -1,5 +1,5 @@
-use Rattle.pajurenda.specs.AnswerLaws.{roomy, short}
-use Rattle.pajurenda.specs.Answers.{applyFields}
+use Rattle.answers.specs.AnswerLaws.{roomy, short}
+use Rattle.answers.specs.Answers.{applyFields}
 use Rattle.sheet.specs.declared.Applied.{Applied}
 use Rattle.words.specs.Put.{putAll}
 use mathlib.Core.Path.{sym, ap, _∙_}

@@ -1,5 +1,5 @@
-use Rattle.pajurenda.specs.AnswerLaws.{roomy, short}
-use Rattle.pajurenda.specs.Answers.{moveFields}
+use Rattle.answers.specs.AnswerLaws.{roomy, short}
+use Rattle.answers.specs.Answers.{moveFields}
 use Rattle.moving.specs.declared.Moved.{Moved}
 use Rattle.words.specs.Put.{putAll}
 use mathlib.Core.Path.{sym, ap, _∙_}

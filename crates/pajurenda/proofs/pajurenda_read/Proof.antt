@@ -1,5 +1,5 @@
-use Rattle.pajurenda.specs.AnswerLaws.{roomy, short}
-use Rattle.pajurenda.specs.Answers.{readFields}
+use Rattle.answers.specs.AnswerLaws.{roomy, short}
+use Rattle.answers.specs.Answers.{readFields}
 use Rattle.image.specs.declared.Reading.{Reading}
 use Rattle.words.specs.Put.{putAll}
 use mathlib.Core.Path.{sym, ap, _∙_}

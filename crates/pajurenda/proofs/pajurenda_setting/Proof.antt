@@ -1,6 +1,6 @@
-use Rattle.pajurenda.specs.AnswerLaws.{roomy, short}
-use Rattle.pajurenda.specs.Answers.{settingFields}
-use Rattle.pajurenda.specs.declared.Found.{Found}
+use Rattle.answers.specs.AnswerLaws.{roomy, short}
+use Rattle.answers.specs.Answers.{settingFields}
+use Rattle.answers.specs.declared.Found.{Found}
 use Rattle.words.specs.Put.{putAll}
 use mathlib.Core.Path.{sym, ap, _∙_}
 use borrow.Author.Needs.{needs}

@@ -1,10 +1,10 @@
-use Rattle.pajurenda.specs.AnswerLaws.{found-refused, found-accepted}
+use Rattle.answers.specs.AnswerLaws.{found-refused, found-accepted}
 use Rattle.sheet.specs.SettingLaws.{setting-passed}
 use Rattle.image.specs.Guarantee.{guaranteed}
 use native.Mathlib.Omega.{arith}
 use borrow.Author.Needs.{needs}
-use Rattle.pajurenda.proofs.find.Statement.{statement}
-use Rattle.pajurenda.proofs.find.Tie as tie
+use Rattle.answers.proofs.find.Statement.{statement}
+use Rattle.answers.proofs.find.Tie as tie
 
 setting-number-requires : tie.Need-setting-number-requires
 setting-number-requires c κs = search needs

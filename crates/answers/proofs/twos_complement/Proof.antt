@@ -1,4 +1,4 @@
-use Rattle.pajurenda.specs.AnswerLaws.{twos-below, twos-above}
+use Rattle.answers.specs.AnswerLaws.{twos-below, twos-above}
 use mir.Facts.{toZ-ofZ}
 use mir.Val.{toZ, ofZ}
 use mir.Syntax.{w64}
@@ -8,8 +8,8 @@ use mathlib.Core.Bool.{true, false}
 use mathlib.Core.Path.{_≡_, sym, _∙_}
 use native.Mathlib.Omega.{arith}
 use borrow.Author.Needs.{needs}
-use Rattle.pajurenda.proofs.twos_complement.Statement.{statement}
-use Rattle.pajurenda.proofs.twos_complement.Tie as tie
+use Rattle.answers.proofs.twos_complement.Statement.{statement}
+use Rattle.answers.proofs.twos_complement.Tie as tie
 
 -- the number as the machine holds it
 held : (c : tie.Start) → toZ w64 (ofZ w64 (c .args .x)) ≡ c .args .x

@@ -15,7 +15,7 @@ use Rattle.moving.specs.declared.Moved.{Moved}
 use Rattle.sheet.specs.declared.Applied.{Applied}
 use Rattle.sheet.specs.Setting.{settingNumber}
 use Rattle.audit.specs.declared.Audited.{Audited}
-use Rattle.pajurenda.specs.declared.Found.{Found}
+use Rattle.answers.specs.declared.Found.{Found}
 
 -- what a call gives where the buffer A has room for an answer of k fields, and what where it hasn't
 unfoldable pub ifRoom : {T : Type 0} → ℕ → List ℕ → T → T → T

@@ -5,8 +5,8 @@ use Prim.Native.Nat.{ℕ}
 use mir.Val.{boolByte}
 use mathlib.Core.Path.{_≡_, refl, ap, _∙_}
 use borrow.Author.Needs.{needs}
-use Rattle.pajurenda.proofs.write_audited.Statement.{statement}
-use Rattle.pajurenda.proofs.write_audited.Tie as tie
+use Rattle.answers.proofs.write_audited.Statement.{statement}
+use Rattle.answers.proofs.write_audited.Tie as tie
 
 -- a bool as a number
 as-number : (t : Bool) → boolByte t ≡ cond t 1 0

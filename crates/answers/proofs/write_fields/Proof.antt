@@ -1,4 +1,4 @@
-use Rattle.pajurenda.specs.AnswerLaws.{field-next, fields-end}
+use Rattle.answers.specs.AnswerLaws.{field-next, fields-end}
 use Rattle.words.specs.PutLaws.{length-put}
 use Rattle.words.specs.Put.{putAll}
 use lib.ListN.{length, drop}
@@ -6,8 +6,8 @@ use Prim.Native.Nat.{_-_, _*_, _≤_}
 use mathlib.Core.Path.{_≡_, refl, sym, _∙_}
 use native.Mathlib.Omega.{arith}
 use borrow.Author.Needs.{needs}
-use Rattle.pajurenda.proofs.write_fields.Statement.{statement}
-use Rattle.pajurenda.proofs.write_fields.Tie as tie
+use Rattle.answers.proofs.write_fields.Statement.{statement}
+use Rattle.answers.proofs.write_fields.Tie as tie
 
 abbrev Inv-loop : tie.InvT-loop
 Inv-loop answer₀ fields i₀ answer i = (i ≤ length fields) × (length answer ≡ length answer₀) × (putAll 8 answer (8 * i) (drop i fields) ≡ putAll 8 answer₀ 0 fields)

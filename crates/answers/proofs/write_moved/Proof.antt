@@ -1,12 +1,12 @@
-use Rattle.pajurenda.specs.Answers.{twos}
+use Rattle.answers.specs.Answers.{twos}
 use Rattle.words.specs.Put.{putAll}
 use mathlib.Core.List.{[], _∷_}
 use Prim.Native.Nat.{ℕ}
 use mir.Facts.{toZ-ofZ}
 use mathlib.Core.Path.{ap, _∙_}
 use borrow.Author.Needs.{needs}
-use Rattle.pajurenda.proofs.write_moved.Statement.{statement}
-use Rattle.pajurenda.proofs.write_moved.Tie as tie
+use Rattle.answers.proofs.write_moved.Statement.{statement}
+use Rattle.answers.proofs.write_moved.Tie as tie
 
 cast-t4 : tie.Need-cast-t4
 cast-t4 c = search needs

@@ -15,7 +15,7 @@ use Rattle.words.specs.Put.{put, putAll}
 use Rattle.image.specs.Reading.{reading}
 use Rattle.sheet.specs.Setting.{settingNumber, settingPart}
 use Rattle.sheet.specs.SettingLaws.{setting-passed, setting-accepted}
-use Rattle.pajurenda.specs.Answers.{ifRoom, twos, finding}
+use Rattle.answers.specs.Answers.{ifRoom, twos, finding}
 
 module _ {T : Type 0} (k : ℕ) (A : List ℕ) (x y : T) where
   pub roomy : 8 * k ≤ length A → ifRoom k A x y ≡ x
