@@ -26,7 +26,7 @@ fn refused(number: u32, index: usize) -> Moved
 }
 
 // Where the i-th word of a move stands: the base word, then each patch word.
-pub fn word_place(image: &[u8], r: Reading, i: usize) -> usize
+fn word_place(image: &[u8], r: Reading, i: usize) -> usize
     requires { ⌜ (r .E ≤ length (now image)) × (r .H + 84 + 4 * r .n ≤ r .E) × (i ≤ r .n) ⌝ }
     ensures { λ p. ⌜ p ≡ wordsAt (now (image .entry)) r i ⌝ }
 {
