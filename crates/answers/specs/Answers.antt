@@ -34,13 +34,16 @@ unfoldable pub twos : ℤ → ℕ
 twos (pos n) = n
 twos (negsuc n) = 2 ^ 64 - suc n
 
+-- "An accepted reading gives: H, component (1..4), image identity, revision, base, c, z, n, E", after number and index
 abbrev pub readFields : Reading → List ℕ
 readFields r =
     r .number ∷ r .index ∷ r .H ∷ r .component ∷ r .identity .image ∷ r .identity .revision ∷ r .base ∷ r .c ∷ r .z ∷ r .n ∷ r .E ∷ []
 
+-- "The answer adds one field only, the move"
 abbrev pub moveFields : Moved → List ℕ
 moveFields r = r .number ∷ r .index ∷ twos (r .distance) ∷ []
 
+-- "an apply adds nothing to that"
 abbrev pub applyFields : Applied → List ℕ
 applyFields r = r .number ∷ r .index ∷ []
 
@@ -57,6 +60,7 @@ finding xs offset size =
 abbrev pub settingFields : Found → List ℕ
 settingFields r = r .number ∷ r .place ∷ r .length ∷ []
 
+-- "The answer carries the base, both counts, the number of setting bits that differ, and "explained""
 abbrev pub auditFields : Audited → List ℕ
 auditFields r =
     r .number ∷ r .index ∷ r .base ∷ r .settings ∷ r .strays ∷ r .bits ∷ cond (r .explained) 1 0 ∷ []

@@ -14,6 +14,7 @@ use Rattle.moving.specs.Moving.{moving, movedImage}
 use Rattle.sheet.specs.Applying.{applying, appliedImage}
 use Rattle.walk.specs.Differences.{entries}
 use Rattle.walk.specs.DifferenceLaws.{length-entries}
+use Rattle.audit.specs.declared.Audited.{Audited}
 use Rattle.audit.specs.Audit.{differing, auditing, listedBytes}
 use Rattle.audit.specs.AuditLaws.{fits}
 use Rattle.answers.specs.Answers.{ifRoom, result, answered, readFields, moveFields, applyFields, finding, settingFields, auditFields}
@@ -82,6 +83,11 @@ one-apply xs sheet A r s a b m n e f k l g h = (e ∙ sym f, k ∙ sym l, g ∙ 
 pub one-setting : (xs A : List ℕ) (offset size r s : ℕ) (a b : List ℕ) → r ≡ result 3 A (finding xs offset size .number) → s ≡ result 3 A (finding xs offset size .number)
     → a ≡ answered A (settingFields (finding xs offset size)) → b ≡ answered A (settingFields (finding xs offset size)) → (r ≡ s) × (a ≡ b)
 one-setting xs A offset size r s a b e f g h = (e ∙ sym f, g ∙ sym h)
+
+-- of `audit::audit_bytes`, which the call hands on
+pub one-audit-bytes : (xs ys bytes : List ℕ) (a b : Audited) (l m : List ℕ) → a ≡ auditing xs ys (length bytes / 4) → b ≡ auditing xs ys (length bytes / 4)
+    → l ≡ listedBytes xs ys bytes → m ≡ listedBytes xs ys bytes → (a ≡ b) × (l ≡ m)
+one-audit-bytes xs ys bytes a b l m e f g h = (e ∙ sym f, g ∙ sym h)
 
 pub one-audit : (xs ys bytes A : List ℕ) (r s : ℕ) (a b l m : List ℕ) → let t = auditing xs ys (length bytes / 4) in
     r ≡ result 7 A (t .number) → s ≡ result 7 A (t .number)
