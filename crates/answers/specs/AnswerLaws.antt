@@ -57,14 +57,17 @@ fields-end A fields at i e = rw (e, drop-length fields)
 -- ---- a lookup
 
 module _ (xs : List ℕ) (offset size : ℕ) where
-  pub found-refused : (settingNumber xs offset size ≡ 0 → ⊥) → finding xs offset size ≡ record { number = settingNumber xs offset size; place = 0; length = 0 }
+  pub found-refused : (settingNumber xs offset size ≡ 0 → ⊥)
+      → finding xs offset size ≡ record { number = settingNumber xs offset size; place = 0; length = 0 }
   unfolding finding
   found-refused h = rw (ne-eqb (settingNumber xs offset size) 0 h)
 
-  pub found-accepted : settingNumber xs offset size ≡ 0 → finding xs offset size ≡ record { number = settingNumber xs offset size; place = reading xs .c + offset; length = size }
+  pub found-accepted : settingNumber xs offset size ≡ 0
+      → finding xs offset size ≡ record { number = settingNumber xs offset size; place = reading xs .c + offset; length = size }
   unfolding finding
   found-accepted e = rw (eq-eqb (settingNumber xs offset size) 0 e)
 
   -- the part that it names is the setting's
-  pub found-part : settingNumber xs offset size ≡ 0 → settingPart xs offset size ≡ take (finding xs offset size .length) (drop (finding xs offset size .place) xs)
+  pub found-part : settingNumber xs offset size ≡ 0
+      → settingPart xs offset size ≡ take (finding xs offset size .length) (drop (finding xs offset size .place) xs)
   found-part e = let p = setting-passed xs offset size e in rw (found-accepted e) (setting-accepted xs offset size (p .0) (p .1) .1)

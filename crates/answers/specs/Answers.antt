@@ -1,9 +1,9 @@
--- The calls as C sees them: "The bench, written in C, calls read, move, apply and audit on numbers and byte slices". An answer is written in a
--- lent buffer, eight bytes a field, the number first.
+-- The answers as C sees them, in a lent buffer: eight bytes a field, the number first.
 -- Assumes nothing.
 use Prim.Native.Nat.{ℕ, suc, _+_, _-_, _*_, _^_}
 use mathlib.Core.Bool.{cond}
 use mathlib.Core.List.{List, [], _∷_}
+use mathlib.Core.Path.{_≡_, sym, _∙_}
 use lib.Dec.{eqb}
 use lib.IntN.{ℤ, pos, negsuc}
 use lib.ListN.{length}
@@ -34,16 +34,16 @@ unfoldable pub twos : ℤ → ℕ
 twos (pos n) = n
 twos (negsuc n) = 2 ^ 64 - suc n
 
--- "An accepted reading gives: H, component (1..4), image identity, revision, base, c, z, n, E", after number and index
+-- a reading: number, index, H, component, image identity, revision, base, c, z, n, E
 abbrev pub readFields : Reading → List ℕ
 readFields r =
     r .number ∷ r .index ∷ r .H ∷ r .component ∷ r .identity .image ∷ r .identity .revision ∷ r .base ∷ r .c ∷ r .z ∷ r .n ∷ r .E ∷ []
 
--- "The answer adds one field only, the move"
+-- a move: number, index, how far
 abbrev pub moveFields : Moved → List ℕ
 moveFields r = r .number ∷ r .index ∷ twos (r .distance) ∷ []
 
--- "an apply adds nothing to that"
+-- an apply: number, index
 abbrev pub applyFields : Applied → List ℕ
 applyFields r = r .number ∷ r .index ∷ []
 
@@ -60,7 +60,15 @@ finding xs offset size =
 abbrev pub settingFields : Found → List ℕ
 settingFields r = r .number ∷ r .place ∷ r .length ∷ []
 
--- "The answer carries the base, both counts, the number of setting bits that differ, and "explained""
+-- an audit: number, index, base, settings, strays, bits, and 1 where it is explained
 abbrev pub auditFields : Audited → List ℕ
 auditFields r =
     r .number ∷ r .index ∷ r .base ∷ r .settings ∷ r .strays ∷ r .bits ∷ cond (r .explained) 1 0 ∷ []
+
+-- the promise of `find`
+abbrev pub Finds : List ℕ → ℕ → ℕ → Found → Type 0
+Finds xs offset size r = r ≡ finding xs offset size
+
+-- it admits one answer
+pub one-find : (xs : List ℕ) (offset size : ℕ) (r s : Found) → Finds xs offset size r → Finds xs offset size s → r ≡ s
+one-find xs offset size r s a b = a ∙ sym b

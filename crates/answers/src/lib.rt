@@ -7,7 +7,7 @@ ghost use mathlib.Core.Path.{_≡_};
 ghost use Prim.Native.Nat.{_*_, _≤_};
 ghost use lib.ListN.{length};
 ghost use Rattle.words.specs.Put.{putAll};
-ghost use Rattle.answers.specs.Answers.{twos, readFields, moveFields, applyFields, finding, settingFields, auditFields};
+ghost use Rattle.answers.specs.Answers.{twos, readFields, moveFields, applyFields, Finds, settingFields, auditFields};
 
 // The fields, eight bytes each, from the buffer's start on.
 fn write_fields(answer: &mut [u8], fields: &[u64])
@@ -77,7 +77,7 @@ pub struct Found {
 }
 
 pub fn find(image: &[u8], offset: u64, size: u64) -> Found
-    ensures { λ r. ⌜ r ≡ finding (now (image .entry)) offset size ⌝ }
+    ensures { λ r. ⌜ Finds (now (image .entry)) offset size r ⌝ }
 {
     let number = sheet::setting_number(image, offset, size);
     if number != 0 {

@@ -1,11 +1,12 @@
 -- Document 01, "The audit".
 -- Assumes nothing.
 use Prim.Native.Nat.{ℕ, _+_, _/_}
-use mathlib.Core.Bool.{false, cond}
+use mathlib.Core.Bool.{Bool, false, cond}
 use mathlib.Core.List.{List}
+use mathlib.Core.Path.{_≡_, sym, _∙_}
 use lib.ListN.{length}
 use lib.Seq.{sets}
-use Rattle.facts.specs.Fact.{_≤?_, _≡?_, _and_, test}
+use Rattle.facts.specs.Fact.{Fact, _≤?_, _≡?_, deny, _and_, test}
 use Rattle.facts.specs.Rules.{answer, rule}
 use Rattle.words.specs.Le.{le}
 use Rattle.words.specs.Put.{putAll}
@@ -14,13 +15,14 @@ use Rattle.image.specs.Reading.{reading}
 use Rattle.image.specs.After.{afterReading, unlessRefused}
 use Rattle.moving.specs.Moving.{moveTo}
 use Rattle.audit.specs.declared.Audited.{Audited}
+use Rattle.walk.specs.declared.Counts.{Counts}
 use Rattle.walk.specs.Differences.{differences, settings, strays, bits, entries}
 
--- "the word at vendor H+28 in the shipped file"
+-- the shipped file's base: what it has where the vendor's base word stands
 abbrev pub shippedBase : List ℕ → List ℕ → ℕ
 shippedBase xs ys = le 4 ys (reading xs .H + 28)
 
--- "The reference is the vendor image moved to that word"
+-- what the shipped file is compared with: the vendor image, moved to that base
 unfoldable pub reference : List ℕ → List ℕ → List ℕ
 reference xs ys = moveTo xs (reading xs) (shippedBase xs ys)
 
@@ -28,13 +30,17 @@ reference xs ys = moveTo xs (reading xs) (shippedBase xs ys)
 unfoldable pub differing : List ℕ → List ℕ → List ℕ
 differing xs ys = differences (reference xs ys) ys 0 (length xs)
 
--- "any other refusal gives its number, its index and zeros"
+-- a refusal other than 20: its number and index, all else zero
 abbrev pub refusedAudit : ℕ → ℕ → Audited
 refusedAudit number index =
     record { number = number; index = index; base = 0; settings = 0; strays = 0; bits = 0; explained = false }
 
--- "20 ROOM, more differences than places [..] carries base and all three counts and never "explained""; "explained" exactly when there
--- are no strays
+-- an answer that carries counts
+abbrev pub carried : ℕ → ℕ → Counts → Bool → Audited
+carried number base t explained =
+    record { number = number; index = 0; base = base; settings = t .settings; strays = t .strays; bits = t .bits; explained = explained }
+
+-- 20 ROOM: as many places as differences; base and counts are told either way, and "explained" is said where there is room and no stray
 unfoldable pub tally : List ℕ → List ℕ → ℕ → Audited
 tally xs ys room =
     let r = reading xs in
@@ -50,18 +56,39 @@ tally xs ys room =
       explained = test (fits and strays r ks ≡? 0);
     }
 
--- "Order: vendor refusals 1..14; 19 PAIR, lengths differ; 18, the word [..] isn't legal; 20"
+-- the vendor's refusals, then 19 PAIR, two files of one length, then 18, a shipped base that is legal
 unfoldable pub auditing : List ℕ → List ℕ → ℕ → Audited
 auditing xs ys room =
     afterReading refusedAudit (reading xs)
     (rule 19 (length ys ≡? length xs) (rule 18 (legalBase (length xs) (shippedBase xs ys)) (answer (tally xs ys room))))
 
--- "Entries stand in order of position. Places after the last entry keep what they held. [..] On every refusal the list keeps what it held"
+-- the list afterwards: the entries from its start on, and what it held after them; what it held where the audit is refused
 unfoldable pub listed : List ℕ → List ℕ → List ℕ → List ℕ
 listed xs ys places =
     unlessRefused (auditing xs ys (length places) .number) (sets places 0 (entries (reading xs) (differing xs ys))) places
 
--- "there a place is four bytes, and bytes after the last whole place are kept"
+-- the same of a list of bytes, in which four make a place
 unfoldable pub listedBytes : List ℕ → List ℕ → List ℕ → List ℕ
 listedBytes xs ys bytes =
     unlessRefused (auditing xs ys (length bytes / 4) .number) (putAll 4 bytes 0 (entries (reading xs) (differing xs ys))) bytes
+
+-- whether an answer is accepted and has anything to list
+abbrev pub listing : Audited → Fact
+listing a = a .number ≡? 0 and deny (a .settings ≡? 0 and a .strays ≡? 0)
+
+-- the promise of `audit`: the answer, and the list afterwards
+abbrev pub Audits : List ℕ → List ℕ → List ℕ → Audited → List ℕ → Type 0
+Audits xs ys places a l = (a ≡ auditing xs ys (length places)) × (l ≡ listed xs ys places)
+
+-- the promise of `audit_bytes`
+abbrev pub AuditsBytes : List ℕ → List ℕ → List ℕ → Audited → List ℕ → Type 0
+AuditsBytes xs ys bytes a l = (a ≡ auditing xs ys (length bytes / 4)) × (l ≡ listedBytes xs ys bytes)
+
+-- any two outcomes that they admit are the same
+pub one-audit : (xs ys places : List ℕ) (a b : Audited) (l m : List ℕ) → Audits xs ys places a l → Audits xs ys places b m
+    → (a ≡ b) × (l ≡ m)
+one-audit xs ys places a b l m (p, q) (s, t) = (p ∙ sym s, q ∙ sym t)
+
+pub one-audit-bytes : (xs ys bytes : List ℕ) (a b : Audited) (l m : List ℕ) → AuditsBytes xs ys bytes a l → AuditsBytes xs ys bytes b m
+    → (a ≡ b) × (l ≡ m)
+one-audit-bytes xs ys bytes a b l m (p, q) (s, t) = (p ∙ sym s, q ∙ sym t)

@@ -3,52 +3,52 @@
 use mathlib.Core.Path.{_≡_, refl, sym, ap, _∙_}
 use mathlib.Core.List.{List, [], _∷_}
 use mathlib.Core.Bool.{Bool, false}
-use Prim.Native.Nat.{ℕ, suc, _+_, _^_, _≤_, _<_}
+use Prim.Native.Nat.{ℕ, suc, _+_, _/_, _^_, _≤_, _<_}
 use native.Mathlib.Omega.{arith}
 use native.Mathlib.Decide.{ℕ-discrete}
 use lib.Dec.{eqb}
 use lib.ListN.{length}
+use lib.Seq.{sets}
 use borrow.Author.Tests.{le-leb, lt-leb}
 use Rattle.facts.specs.Fact.{Fact, Holds, _≤?_, _≡?_, deny, _and_, test, passes, fails}
 use Rattle.facts.specs.Rules.{Rules, rule, answer, run, passed, by-test}
+use Rattle.words.specs.Put.{putAll}
 use Rattle.header.specs.Base.{legalBase}
 use Rattle.image.specs.Reading.{reading}
 use Rattle.image.specs.After.{unlessRefused, after-accepted, after-refused, changed-so, kept-so}
 use Rattle.image.specs.Guarantee.{guaranteed}
+use Rattle.image.specs.Numbers.{Numbered, after-every, numbered-own, own-number, own-zero}
 use Rattle.moving.specs.Moves.{difference}
 use Rattle.moving.specs.MovesLaws.{moved-cong}
 use Rattle.moving.specs.Moving.{wordsOf, moveTo}
 use Rattle.audit.specs.declared.Audited.{Audited}
-use Rattle.walk.specs.declared.Tally.{Tally}
-use Rattle.walk.specs.Differences.{differences, settings, strays, bits}
-use Rattle.audit.specs.Audit.{shippedBase, reference, differing, refusedAudit, tally, auditing}
+use Rattle.walk.specs.declared.Counts.{Counts}
+use Rattle.walk.specs.Differences.{differences, settings, strays, bits, entries, countsOf}
+use Rattle.audit.specs.Audit.{shippedBase, reference, differing, refusedAudit, carried, tally, auditing, listed, listedBytes, listing}
 use Rattle.walk.specs.Walk.{by}
 use Rattle.walk.specs.DifferenceLaws.{counts}
-use Rattle.walk.specs.Counting.{Totals}
-
--- the answer that carries counts
-abbrev pub carried : ℕ → ℕ → Tally → Bool → Audited
-carried number base t explained =
-    record { number = number; index = 0; base = base; settings = t .settings; strays = t .strays; bits = t .bits; explained = explained }
 
 -- the reference, as the walk moves each word
-pub by-reference : (xs ys : List ℕ) (d : ℕ) → d ≡ difference (reading xs .base) (shippedBase xs ys) 4 → by xs (reading xs) d ≡ reference xs ys
+pub by-reference : (xs ys : List ℕ) (d : ℕ) → d ≡ difference (reading xs .base) (shippedBase xs ys) 4
+    → by xs (reading xs) d ≡ reference xs ys
 unfolding reference moveTo
 by-reference xs ys d e =
-    moved-cong xs (wordsOf xs (reading xs)) (wordsOf xs (reading xs)) (λ w. d) (difference (reading xs .base) (shippedBase xs ys)) (suc (reading xs .n)) (λ j h. refl) (λ j h. refl) (λ j h. e)
+    moved-cong xs (wordsOf xs (reading xs)) (wordsOf xs (reading xs)) (λ w. d) (difference (reading xs .base) (shippedBase xs ys))
+    (suc (reading xs .n)) (λ j h. refl) (λ j h. refl) (λ j h. e)
 
-module _ (xs ys : List ℕ) (room : ℕ) (t : Tally) (long : length ys ≡ length xs) (totals : Totals (reference xs ys) ys (reading xs) t) where
+module _ (xs ys : List ℕ) (room : ℕ) (t : Counts) (long : length ys ≡ length xs)
+    (totals : t ≡ countsOf (reference xs ys) ys (reading xs)) where
   pub all-settings : settings (reading xs) (differing xs ys) ≡ t .settings
-  unfolding differing
-  all-settings = rw (← long) (sym (totals .settings-all))
+  unfolding differing countsOf
+  all-settings = rw (← long) (sym (ap (λ (q : Counts). q .settings) totals))
 
   pub all-strays : strays (reading xs) (differing xs ys) ≡ t .strays
-  unfolding differing
-  all-strays = rw (← long) (sym (totals .strays-all))
+  unfolding differing countsOf
+  all-strays = rw (← long) (sym (ap (λ (q : Counts). q .strays) totals))
 
   all-bits : bits (reference xs ys) ys (reading xs) (differing xs ys) ≡ t .bits
-  unfolding differing
-  all-bits = rw (← long) (sym (totals .bits-all))
+  unfolding differing countsOf
+  all-bits = rw (← long) (sym (ap (λ (q : Counts). q .bits) totals))
 
   -- as many as there are differences
   pub how-many : t .settings + t .strays ≡ length (differing xs ys)
@@ -65,10 +65,6 @@ module _ (xs ys : List ℕ) (room : ℕ) (t : Tally) (long : length ys ≡ lengt
 empty : (l : List ℕ) → length l ≡ 0 → l ≡ []
 empty [] e = refl
 empty (x ∷ l) e = absurd (omega arith)
-
--- whether an answer is accepted and has anything to list
-abbrev pub listing : Audited → Fact
-listing a = a .number ≡? 0 and deny (a .settings ≡? 0 and a .strays ≡? 0)
 
 module _ (xs ys : List ℕ) (room : ℕ) where
   -- the audit's own rules
@@ -88,7 +84,8 @@ module _ (xs ys : List ℕ) (room : ℕ) where
     unfolding run
     audit-unpaired h = judged ∙ rw (fails (length ys ≡? length xs) h)
 
-    pub audit-illegal : length ys ≡ length xs → (Holds (legalBase (length xs) (shippedBase xs ys)) → ⊥) → auditing xs ys room ≡ refusedAudit 18 0
+    pub audit-illegal : length ys ≡ length xs → (Holds (legalBase (length xs) (shippedBase xs ys)) → ⊥)
+        → auditing xs ys room ≡ refusedAudit 18 0
     unfolding run
     audit-illegal long h = judged ∙ rw (passes (length ys ≡? length xs) long, fails (legalBase (length xs) (shippedBase xs ys)) h)
 
@@ -103,12 +100,14 @@ module _ (xs ys : List ℕ) (room : ℕ) where
     pub legal : Holds (legalBase (length xs) (shippedBase xs ys))
     pub told : auditing xs ys room ≡ tally xs ys room
 
-  pub accepted : auditing xs ys room .number ≡ 0 → Accepted
-  accepted e =
+  pub audit-accepted : auditing xs ys room .number ≡ 0 → Accepted
+  audit-accepted e =
       elim (ℕ-discrete (reading xs .number) 0) [
         | no h ↦ absurd (h (ap (λ (a : Audited). a .number) (sym (audit-unread h)) ∙ e))
         | yes ok ↦
-            let p = passed refusedAudit (λ (a : Audited). a .number) (λ k i. refl) own refl (ap (λ (a : Audited). a .number) (sym (judged ok)) ∙ e) in
+            let p =
+            passed refusedAudit (λ (a : Audited). a .number) (λ k i. refl) own refl
+            (ap (λ (a : Audited). a .number) (sym (judged ok)) ∙ e) in
             record { read = ok; paired = p .0; legal = p .1 .0; told = judged ok ∙ p .1 .1 }
       ]
 
@@ -116,34 +115,34 @@ module _ (xs ys : List ℕ) (room : ℕ) where
     -- it names the shipped base
     pub names : auditing xs ys room .base ≡ shippedBase xs ys
     unfolding tally
-    names = ap (λ (a : Audited). a .base) (accepted ok .told)
+    names = ap (λ (a : Audited). a .base) (audit-accepted ok .told)
 
     -- the list has room
     pub fits : length (differing xs ys) ≤ room
     unfolding tally
     fits =
         let ks = differing xs ys in
-        let e : tally xs ys room .number ≡ 0 = ap (λ (a : Audited). a .number) (sym (accepted ok .told)) ∙ ok in
+        let e : tally xs ys room .number ≡ 0 = ap (λ (a : Audited). a .number) (sym (audit-accepted ok .told)) ∙ ok in
         by-test (λ (k : ℕ). k ≡ 0 → length ks ≤ room) (settings (reading xs) ks + strays (reading xs) ks ≤? room) 0 20
         (λ h z. omega (arith, h, counts (reading xs) ks)) (λ h z. absurd (omega arith)) e
 
     -- both bases are words
     pub small : (reading xs .base < 2 ^ 32) × (auditing xs ys room .base < 2 ^ 32)
     small =
-        let g = guaranteed xs (accepted ok .read) in
-        (omega (arith, g .legal, g .length-least), rw names (omega (arith, accepted ok .legal, g .length-least)))
+        let g = guaranteed xs (audit-accepted ok .read) in
+        (omega (arith, g .legal, g .length-least), rw names (omega (arith, audit-accepted ok .legal, g .length-least)))
 
     -- what is walked is what differs
     pub walked : (d : ℕ) → d ≡ difference (reading xs .base) (auditing xs ys room .base) 4
         → differences (by xs (reading xs) d) ys 0 (length ys) ≡ differing xs ys
     unfolding differing
-    walked d e = rw (by-reference xs ys d (rw names at e), accepted ok .paired)
+    walked d e = rw (by-reference xs ys d (rw names at e), audit-accepted ok .paired)
 
   -- an accepted audit that has nothing to list has found no difference
   none : auditing xs ys room .number ≡ 0 → (Holds (listing (auditing xs ys room)) → ⊥) → differing xs ys ≡ []
   unfolding tally
   none z h =
-      let told = accepted z .told in
+      let told = audit-accepted z .told in
       elim (ℕ-discrete (auditing xs ys room .settings) 0) [
         | no n ↦ absurd (h (z, λ q. n (q .0)))
         | yes s ↦
@@ -151,7 +150,13 @@ module _ (xs ys : List ℕ) (room : ℕ) where
               | no n ↦ absurd (h (z, λ q. n (q .1)))
               | yes t ↦
                   empty (differing xs ys)
-                  (omega (arith, counts (reading xs) (differing xs ys), ap (λ (a : Audited). a .settings) told, ap (λ (a : Audited). a .strays) told))
+                  (omega (
+                    arith,
+                    counts (reading xs) (differing xs ys),
+                    ap (λ (a : Audited). a .settings) told,
+                    ap
+                        (λ (a : Audited). a .strays) told,
+                  ))
             ]
       ]
 
@@ -163,3 +168,36 @@ module _ (xs ys : List ℕ) (room : ℕ) where
         | no n ↦ kept-so (auditing xs ys room .number) changed l n
         | yes z ↦ changed-so (auditing xs ys room .number) changed l z ∙ same (none z h)
       ]
+
+-- ---- which numbers and indices an audit answers
+
+-- its own refusals are 18, 19 and 20
+abbrev pub OwnAudit : ℕ → Type 0
+OwnAudit k = (18 ≤ k) × (k ≤ 20)
+
+pub audit-numbered : (xs ys : List ℕ) (room : ℕ) → Numbered xs OwnAudit (auditing xs ys room .number) (auditing xs ys room .index)
+unfolding auditing tally
+audit-numbered xs ys room =
+    let own-one = own-number xs OwnAudit in
+    after-every refusedAudit (λ (a : Audited). Numbered xs OwnAudit (a .number) (a .index)) xs _ (λ h. numbered-own xs OwnAudit)
+    (λ ok. (
+      (λ h. own-one 19 (omega arith, omega arith)),
+      λ h. (
+        (λ h. own-one 18 (omega arith, omega arith)),
+        λ h.
+            by-test (λ (k : ℕ). Numbered xs OwnAudit k 0)
+            (settings (reading xs) (differing xs ys) + strays (reading xs) (differing xs ys) ≤? room) 0 20
+            (λ e. own-zero xs OwnAudit) (λ e. own-one 20 (omega arith, omega arith)),
+      ),
+    ))
+
+-- a refused audit changes no place of the list
+pub list-kept : (xs ys places : List ℕ) → (auditing xs ys (length places) .number ≡ 0 → ⊥) → listed xs ys places ≡ places
+unfolding listed
+list-kept xs ys places h =
+    kept-so (auditing xs ys (length places) .number) (sets places 0 (entries (reading xs) (differing xs ys))) places h
+
+pub bytes-kept : (xs ys bytes : List ℕ) → (auditing xs ys (length bytes / 4) .number ≡ 0 → ⊥) → listedBytes xs ys bytes ≡ bytes
+unfolding listedBytes
+bytes-kept xs ys bytes h =
+    kept-so (auditing xs ys (length bytes / 4) .number) (putAll 4 bytes 0 (entries (reading xs) (differing xs ys))) bytes h

@@ -57,7 +57,8 @@ pub record Filled (w : Writing) (ref ys : List ℕ) (r : Reading) (l m : List �
   pub room : u .count + length (rest ref ys (u .at)) ≡ f .count + length (rest ref ys (f .at))
   pub kept : w .all m (u .count) (entries r (rest ref ys (u .at))) ≡ w .all l (f .count) (entries r (rest ref ys (f .at)))
 
-module _ (w : Writing) (ref ys : List ℕ) (r : Reading) (l : List ℕ) (f : Fill) (s : Step) (stepped : Stepped ref ys (f .at) s) (q : Ahead) where
+module _ (w : Writing) (ref ys : List ℕ) (r : Reading) (l : List ℕ) (f : Fill) (s : Step) (stepped : Stepped ref ys (f .at) s)
+    (q : Ahead) where
   left : rest ref ys (f .at) ≡ rest ref ys (s .at)
   left = rest-over ref ys (f .at) (s .at) (stepped .onward) (stepped .most) (stepped .clear)
 
@@ -65,7 +66,8 @@ module _ (w : Writing) (ref ys : List ℕ) (r : Reading) (l : List ℕ) (f : Fil
   pub hit-first : s .hit ≡ true → rest ref ys (f .at) ≡ s .at ∷ rest ref ys (s .at + 1)
   hit-first hit = let h = stepped .found hit in left ∙ rest-hit ref ys (s .at) (h .0) (h .1)
 
-  pub fill-hit : s .hit ≡ true → Filled w ref ys r l (w .one l (f .count) (entry r (s .at))) f (record { at = s .at + 1; ahead = q; count = f .count + 1 })
+  pub fill-hit : s .hit ≡ true
+      → Filled w ref ys r l (w .one l (f .count) (entry r (s .at))) f (record { at = s .at + 1; ahead = q; count = f .count + 1 })
   unfolding entries
   fill-hit hit =
       let e = hit-first hit in

@@ -1,3 +1,4 @@
 pub mod Audit
 pub mod Filling
 pub mod AuditLaws
+pub mod Small

@@ -1,7 +1,7 @@
 // Document 01, "The audit".
 use image::Reading;
 use walk::Ahead;
-use walk::Tally;
+use walk::Counts;
 ghost use mathlib.Core.Path.{_≡_};
 ghost use Prim.Native.Nat.{_*_, _/_, _≤_, _<_};
 ghost use lib.ListN.{length};
@@ -14,8 +14,7 @@ ghost use Rattle.image.specs.Guarantee.{Guaranteed};
 ghost use Rattle.walk.specs.Differences.{differences, entries};
 ghost use Rattle.walk.specs.Walk.{by};
 ghost use Rattle.walk.specs.Ahead.{Known};
-ghost use Rattle.audit.specs.Audit.{shippedBase, refusedAudit, tally, auditing, listed, listedBytes};
-ghost use Rattle.audit.specs.AuditLaws.{carried, listing};
+ghost use Rattle.audit.specs.Audit.{shippedBase, refusedAudit, carried, tally, auditing, listing, Audits, AuditsBytes};
 ghost use Rattle.audit.specs.Filling.{Room, Filled, inWords, inBytes};
 
 // The answer of an audit: number 0 or 20 and the base and counts, or another refusal's number and index and zeros.
@@ -93,12 +92,12 @@ fn fill_step_bytes(
     let ahead = walk::current_words(vendor, r, f.at, known);
     let s = walk::advance(vendor, shipped, r, d, f.at, ahead.first);
     if s.hit {
-        let i = f.count;
-        words::put32(places, 4 * i, walk::entry_of(r, s.at));
+        let j = f.count;
+        words::put32(places, 4 * j, walk::entry_of(r, s.at));
         return Fill {
             at: s.at + 1,
             ahead,
-            count: i + 1,
+            count: j + 1,
         };
     }
     Fill {
@@ -137,7 +136,7 @@ fn refused(number: u32, index: usize) -> Audited
     }
 }
 
-fn carry(number: u32, base: u64, t: Tally, explained: bool) -> Audited
+fn carry(number: u32, base: u64, t: Counts, explained: bool) -> Audited
     ensures { λ r. ⌜ r ≡ carried number base t explained ⌝ }
 {
     Audited {
@@ -200,8 +199,7 @@ fn lists(a: Audited) -> bool
 
 // Audits a shipped file against the maker's image, whatever both are: what differs, listed in `places`, or a refusal that changes nothing.
 pub fn audit(vendor: &[u8], shipped: &[u8], places: &mut [u32]) -> Audited
-    ensures { λ a. ⌜ a ≡ auditing (now (vendor .entry)) (now (shipped .entry)) (length (now (places .entry))) ⌝ }
-    ensures { λ _. ⌜ now (places .exit) ≡ listed (now (vendor .entry)) (now (shipped .entry)) (now (places .entry)) ⌝ }
+    ensures { λ a. ⌜ Audits (now (vendor .entry)) (now (shipped .entry)) (now (places .entry)) a (now (places .exit)) ⌝ }
 {
     let r = image::read(vendor);
     let a = survey(vendor, shipped, r, places.len());
@@ -215,8 +213,7 @@ pub fn audit(vendor: &[u8], shipped: &[u8], places: &mut [u32]) -> Audited
 
 // The same with a list in which a place is four bytes; bytes after the last whole place are kept.
 pub fn audit_bytes(vendor: &[u8], shipped: &[u8], places: &mut [u8]) -> Audited
-    ensures { λ a. ⌜ a ≡ auditing (now (vendor .entry)) (now (shipped .entry)) (length (now (places .entry)) / 4) ⌝ }
-    ensures { λ _. ⌜ now (places .exit) ≡ listedBytes (now (vendor .entry)) (now (shipped .entry)) (now (places .entry)) ⌝ }
+    ensures { λ a. ⌜ AuditsBytes (now (vendor .entry)) (now (shipped .entry)) (now (places .entry)) a (now (places .exit)) ⌝ }
 {
     let r = image::read(vendor);
     let a = survey(vendor, shipped, r, places.len() / 4);

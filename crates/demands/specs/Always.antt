@@ -14,7 +14,8 @@ use Rattle.demands.specs.Explains.{Explains}
 use Rattle.demands.specs.Explained.{explains-base, explains-told, told-counts}
 use Rattle.demands.specs.Made.{Made, made-explains}
 
-pub made-explained : (xs zs places : List ℕ) (base : ℕ) → reading xs .number ≡ 0 → Bytes xs → Made xs zs base → length (differing xs zs) ≤ length places
+pub made-explained : (xs zs places : List ℕ) (base : ℕ) → reading xs .number ≡ 0 → Bytes xs → Made xs zs base
+    → length (differing xs zs) ≤ length places
     → (auditing xs zs (length places) .explained ≡ true) × (auditing xs zs (length places) .base ≡ base)
 made-explained xs zs places base ok bytes made room =
     let e = made-explains xs ok bytes made .1 in

@@ -22,7 +22,8 @@ use Rattle.image.specs.Guarantee.{guaranteed}
 use Rattle.moving.specs.Moving.{movedImage}
 use Rattle.moving.specs.MovingLaws.{moving-accepted}
 use Rattle.moving.specs.Theorems.{length-after, moved-reads}
-use Rattle.sheet.specs.PartLaws.{joined, length-joined, joined-low, joined-mid, joined-high}
+use Rattle.sheet.specs.PartLaws.{length-joined, joined-low, joined-mid, joined-high}
+use Rattle.sheet.specs.Applying.{joined}
 use Rattle.audit.specs.declared.Audited.{Audited}
 use Rattle.walk.specs.Differences.{agrees, differences, setting, entry, settings, strays, bits, entries}
 use Rattle.walk.specs.DifferenceLaws.{counts, length-entries}
@@ -30,52 +31,48 @@ use Rattle.audit.specs.Audit.{shippedBase, reference, differing, tally, auditin
 use Rattle.audit.specs.AuditLaws.{audit-told}
 use Rattle.demands.specs.Explains.{Turns, Explains}
 
--- any two answers that the promise of an audit admits are the same, and so are any two lists
-pub one-audit : (xs ys places : List ℕ) (a b : Audited) (l m : List ℕ) → a ≡ auditing xs ys (length places) → b ≡ auditing xs ys (length places)
-    → l ≡ listed xs ys places → m ≡ listed xs ys places → (a ≡ b) × (l ≡ m)
-one-audit xs ys places a b l m e f g h = (cc, cc)
-
 -- ---- the differing positions
 
 -- each element rises over those before it
-abbrev Rising : List ℕ → Type 0
-Rising l = (i j : ℕ) → i < j → j < length l → getD l i 0 < getD l j 0
+abbrev Ascends : List ℕ → Type 0
+Ascends l = (i j : ℕ) → i < j → j < length l → getD l i 0 < getD l j 0
 
 -- each element is one of the n positions from k on, and ys differs there from ref
-abbrev Stands : List ℕ → List ℕ → ℕ → ℕ → List ℕ → Type 0
-Stands ref ys k n l = (i : ℕ) → i < length l → (k ≤ getD l i 0) × (getD l i 0 < k + n) × (Holds (agrees ref ys (getD l i 0)) → ⊥)
+abbrev DiffersAt : List ℕ → List ℕ → ℕ → ℕ → List ℕ → Type 0
+DiffersAt ref ys k n l = (i : ℕ) → i < length l → (k ≤ getD l i 0) × (getD l i 0 < k + n) × (Holds (agrees ref ys (getD l i 0)) → ⊥)
 
 -- p is an element
 abbrev Has : ℕ → List ℕ → Type 0
 Has p l = (i : ℕ) × (i < length l) × (getD l i 0 ≡ p)
 
 module _ (ref ys : List ℕ) where
-  stands-more : (k n : ℕ) (l : List ℕ) → Stands ref ys (suc k) n l → Stands ref ys k (suc n) l
+  stands-more : (k n : ℕ) (l : List ℕ) → DiffersAt ref ys (suc k) n l → DiffersAt ref ys k (suc n) l
   stands-more k n l s i h = let t = s i h in (omega arith, omega arith, t .2)
 
-  stands-cons : (k n : ℕ) (l : List ℕ) → (Holds (agrees ref ys k) → ⊥) → Stands ref ys (suc k) n l → Stands ref ys k (suc n) (k ∷ l)
+  stands-cons : (k n : ℕ) (l : List ℕ) → (Holds (agrees ref ys k) → ⊥) → DiffersAt ref ys (suc k) n l → DiffersAt ref ys k (suc n) (k ∷ l)
   stands-cons k n l e s zero h = (omega arith, omega arith, e)
   stands-cons k n l e s (suc i) h = stands-more k n l s i (omega arith)
 
-  stands : (k n : ℕ) → Stands ref ys k n (differences ref ys k n)
+  stands : (k n : ℕ) → DiffersAt ref ys k n (differences ref ys k n)
   unfolding differences
   stands k zero = λ i h. absurd (omega arith)
   stands k (suc n) =
       let l = differences ref ys (suc k) n in
-      by-test (λ (m : List ℕ). Stands ref ys k (suc n) m) (agrees ref ys k) l (k ∷ l)
+      by-test (λ (m : List ℕ). DiffersAt ref ys k (suc n) m) (agrees ref ys k) l (k ∷ l)
       (λ e. stands-more k n l (stands (suc k) n)) (λ e. stands-cons k n l e (stands (suc k) n))
 
-  rising-cons : (k n : ℕ) (l : List ℕ) → Stands ref ys (suc k) n l → Rising l → Rising (k ∷ l)
+  rising-cons : (k n : ℕ) (l : List ℕ) → DiffersAt ref ys (suc k) n l → Ascends l → Ascends (k ∷ l)
   rising-cons k n l s r i zero h g = absurd (omega arith)
   rising-cons k n l s r zero (suc j) h g = let t = s j (omega arith) in omega arith
   rising-cons k n l s r (suc i) (suc j) h g = r i j (omega arith) (omega arith)
 
-  rising : (k n : ℕ) → Rising (differences ref ys k n)
+  rising : (k n : ℕ) → Ascends (differences ref ys k n)
   unfolding differences
   rising k zero = λ i j h g. absurd (omega arith)
   rising k (suc n) =
       let l = differences ref ys (suc k) n in
-      by-test (λ (m : List ℕ). Rising m) (agrees ref ys k) l (k ∷ l) (λ e. rising (suc k) n) (λ e. rising-cons k n l (stands (suc k) n) (rising (suc k) n))
+      by-test (λ (m : List ℕ). Ascends m) (agrees ref ys k) l (k ∷ l) (λ e. rising (suc k) n)
+      (λ e. rising-cons k n l (stands (suc k) n) (rising (suc k) n))
 
   has-cons : (k p : ℕ) (l : List ℕ) → Has p l → Has p (k ∷ l)
   has-cons k p l (i, h, e) = (suc i, omega arith, e)
@@ -91,7 +88,8 @@ module _ (ref ys : List ℕ) where
             (λ h. absurd (differs (rw e at h))) (λ h. (0, omega arith, e))
         | no e ↦
             by-test (λ (m : List ℕ). Has p m) (agrees ref ys k) l (k ∷ l)
-            (λ h. has (suc k) n p (omega arith) (omega arith) differs) (λ h. has-cons k p l (has (suc k) n p (omega arith) (omega arith) differs))
+            (λ h. has (suc k) n p (omega arith) (omega arith) differs)
+            (λ h. has-cons k p l (has (suc k) n p (omega arith) (omega arith) differs))
       ]
 
 module _ (xs ys : List ℕ) where
@@ -102,7 +100,8 @@ module _ (xs ys : List ℕ) where
 
   -- what stands there is a differing position
   pub differs-at : (i : ℕ) → i < length (differing xs ys)
-      → (getD (differing xs ys) i 0 < length xs) × (getD ys (getD (differing xs ys) i 0) 0 ≡ getD (reference xs ys) (getD (differing xs ys) i 0) 0 → ⊥)
+      → (getD (differing xs ys) i 0 < length xs) × (getD ys (getD (differing xs ys) i 0) 0 ≡ getD (reference xs ys)
+      (getD (differing xs ys) i 0) 0 → ⊥)
   unfolding differing
   differs-at i h = let t = stands (reference xs ys) ys 0 (length xs) i h in (omega arith, t .2)
 
@@ -155,16 +154,24 @@ length-listed xs ys places =
       | no e ↦ rw (kept-so number (sets places 0 es) places e)
     ]
 
-module _ (xs ys places : List ℕ) (ok : reading xs .number ≡ 0) (long : length ys ≡ length xs) (legal : Holds (legalBase (length xs) (shippedBase xs ys))) where
+module _ (xs ys places : List ℕ) (ok : reading xs .number ≡ 0) (long : length ys ≡ length xs)
+    (legal : Holds (legalBase (length xs) (shippedBase xs ys))) where
   told : auditing xs ys (length places) ≡ tally xs ys (length places)
   told = audit-told xs ys (length places) ok long legal
 
   -- what it counts, whether there is room or not
-  pub told-always : (auditing xs ys (length places) .base ≡ shippedBase xs ys) × (auditing xs ys (length places) .settings ≡ settings (reading xs) (differing xs ys))
-      × (auditing xs ys (length places) .strays ≡ strays (reading xs) (differing xs ys)) × (auditing xs ys (length places) .bits ≡ bits (reference xs ys) ys (reading xs) (differing xs ys))
+  pub told-always : (auditing xs ys (length places) .base ≡ shippedBase xs ys) ×
+      (auditing xs ys (length places) .settings ≡ settings (reading xs) (differing xs ys))
+      × (auditing xs ys (length places) .strays ≡ strays (reading xs) (differing xs ys)) ×
+      (auditing xs ys (length places) .bits ≡ bits (reference xs ys) ys (reading xs) (differing xs ys))
   unfolding tally
-  told-always =
-      (ap (λ (a : Audited). a .base) told, ap (λ (a : Audited). a .settings) told, ap (λ (a : Audited). a .strays) told, ap (λ (a : Audited). a .bits) told)
+  told-always = (
+    ap (λ (a : Audited). a .base) told,
+    ap (λ (a : Audited). a .settings) told,
+    ap (λ (a : Audited). a .strays) told,
+    ap
+        (λ (a : Audited). a .bits) told,
+  )
 
   module _ (room : length (differing xs ys) ≤ length places) where
     fits : Holds (fitting xs ys (length places))
@@ -178,7 +185,8 @@ module _ (xs ys places : List ℕ) (ok : reading xs .number ≡ 0) (long : lengt
 
     -- the answer of an audit with room
     pub told-counts : (auditing xs ys (length places) .number ≡ 0) × (auditing xs ys (length places) .base ≡ shippedBase xs ys)
-        × (auditing xs ys (length places) .settings ≡ settings (reading xs) (differing xs ys)) × (auditing xs ys (length places) .strays ≡ strays (reading xs) (differing xs ys))
+        × (auditing xs ys (length places) .settings ≡ settings (reading xs) (differing xs ys)) ×
+        (auditing xs ys (length places) .strays ≡ strays (reading xs) (differing xs ys))
         × (auditing xs ys (length places) .bits ≡ bits (reference xs ys) ys (reading xs) (differing xs ys))
     told-counts = (told-number, told-always .0, told-always .1, told-always .2, told-always .3)
 
@@ -195,10 +203,11 @@ module _ (xs ys places : List ℕ) (ok : reading xs .number ≡ 0) (long : lengt
     -- the place of the i-th difference holds its entry
     pub place-is : (i : ℕ) → i < length (differing xs ys) → getD (listed xs ys places) i 0 ≡ entry (reading xs) (getD (differing xs ys) i 0)
     place-is i h =
-        rw stored (List·getD-append (entries (reading xs) (differing xs ys)) (drop (length (differing xs ys)) places) 0 i (rw length-entries h)
+        rw stored (List·getD-append (entries (reading xs) (differing xs ys)) (drop (length (differing xs ys)) places) 0 i
+        (rw length-entries h)
         ∙ getD-entries (reading xs) (differing xs ys) i h)
 
-    -- "Places after the last entry keep what they held"
+    -- what stands after the last entry stays
     pub place-kept : (i : ℕ) → length (differing xs ys) ≤ i → getD (listed xs ys places) i 0 ≡ getD places i 0
     place-kept i h =
         let n = length (differing xs ys) in
@@ -217,11 +226,12 @@ module _ (xs ys places : List ℕ) (ok : reading xs .number ≡ 0) (long : lengt
     pub strays-explained : strays (reading xs) (differing xs ys) ≡ 0 → auditing xs ys (length places) .explained ≡ true
     strays-explained z = says-explained ∙ passes (clean xs ys (length places)) (fits, z)
 
-  -- the answer of an audit without: "20 ROOM [..] carries base and all three counts and never "explained"", and the list keeps what it
-  -- held
+  -- the answer of an audit without: 20, never explained, with base and true counts; and the list is what it was
   pub too-short : length places < length (differing xs ys)
-      → (auditing xs ys (length places) .number ≡ 20) × (auditing xs ys (length places) .explained ≡ false) × (auditing xs ys (length places) .base ≡ shippedBase xs ys)
-      × (auditing xs ys (length places) .settings ≡ settings (reading xs) (differing xs ys)) × (auditing xs ys (length places) .strays ≡ strays (reading xs) (differing xs ys))
+      → (auditing xs ys (length places) .number ≡ 20) × (auditing xs ys (length places) .explained ≡ false) ×
+      (auditing xs ys (length places) .base ≡ shippedBase xs ys)
+      × (auditing xs ys (length places) .settings ≡ settings (reading xs) (differing xs ys)) ×
+      (auditing xs ys (length places) .strays ≡ strays (reading xs) (differing xs ys))
       × (auditing xs ys (length places) .bits ≡ bits (reference xs ys) ys (reading xs) (differing xs ys)) × (listed xs ys places ≡ places)
   unfolding tally listed
   too-short short =
@@ -251,7 +261,8 @@ module _ (xs ys : List ℕ) (bytes : Bytes xs) (ok : reading xs .number ≡ 0) w
   pub explains-base : (base : ℕ) → Explains xs ys base → base ≡ shippedBase xs ys
   explains-base base ex =
       let at = reading xs .H + 28 in
-      sym (le-cong 4 ys (movedImage xs base) at (record { same = λ j h. ex .same (at + j) (inl (omega (arith, guaranteed xs ok))) }) ∙ new-base base (ex .legal))
+      sym (le-cong 4 ys (movedImage xs base) at (record { same = λ j h. ex .same (at + j) (inl (omega (arith, guaranteed xs ok))) })
+      ∙ new-base base (ex .legal))
 
   region : (base : ℕ) → Holds (legalBase (length xs) base) → reading xs .c + 32 + (reading xs .z - 32) ≤ length (movedImage xs base)
   region base legal = rw (length-after xs bytes ok base legal) (omega (arith, guaranteed xs ok))
@@ -264,15 +275,18 @@ module _ (xs ys : List ℕ) (bytes : Bytes xs) (ok : reading xs .number ≡ 0) w
       let fits = region base (t .legal) in
       record {
         legal = t .legal;
-        long = ap length (t .is) ∙ length-joined (movedImage xs base) from size part fits (t .long) ∙ length-after xs bytes ok base (t .legal);
+        long = ap length (t .is) ∙ length-joined (movedImage xs base) from size part fits (t .long) ∙ length-after xs bytes ok base
+            (t .legal);
         same = λ k out. ap (λ (l : List ℕ). getD l k 0) (t .is) ∙ outside k out;
       }
     where
       outside : (k : ℕ) → (k < reading xs .c + 32) ⊎ (reading xs .c + reading xs .z ≤ k)
           → getD (joined (movedImage xs base) (reading xs .c + 32) (reading xs .z - 32) part) k 0 ≡ getD (movedImage xs base) k 0
-      outside k (inl h) = joined-low (movedImage xs base) (reading xs .c + 32) (reading xs .z - 32) part (region base (t .legal)) (t .long) k h
+      outside k (inl h) = joined-low (movedImage xs base) (reading xs .c + 32) (reading xs .z - 32) part (region base (t .legal))
+          (t .long) k h
       outside k (inr h) =
-          joined-high (movedImage xs base) (reading xs .c + 32) (reading xs .z - 32) part (region base (t .legal)) (t .long) k (omega (arith, guaranteed xs ok))
+          joined-high (movedImage xs base) (reading xs .c + 32) (reading xs .z - 32) part (region base (t .legal)) (t .long) k
+          (omega (arith, guaranteed xs ok))
 
   -- and the setting bytes that do it are the shipped file's own
   pub explains-turns : (base : ℕ) → Explains xs ys base → Turns xs ys base (take (reading xs .z - 32) (drop (reading xs .c + 32) ys))
@@ -280,7 +294,8 @@ module _ (xs ys : List ℕ) (bytes : Bytes xs) (ok : reading xs .number ≡ 0) w
       record {
         legal = ex .legal;
         long = own;
-        is = ext-getD 0 ys all (ex .long ∙ sym (length-after xs bytes ok base (ex .legal)) ∙ sym (length-joined (movedImage xs base) from size part (region base (ex .legal)) own)) byte;
+        is = ext-getD 0 ys all (ex .long ∙ sym (length-after xs bytes ok base (ex .legal)) ∙ sym
+            (length-joined (movedImage xs base) from size part (region base (ex .legal)) own)) byte;
       }
     where
       from : ℕ
@@ -306,16 +321,19 @@ module _ (xs ys : List ℕ) (bytes : Bytes xs) (ok : reading xs .number ≡ 0) w
             | yes low ↦ ex .same k (inl low) ∙ sym (joined-low m from size part inside own k low)
             | no low ↦
                 elim (decLt k (from + size)) [
-                  | no high ↦ ex .same k (inr (omega (arith, guaranteed xs ok))) ∙ sym (joined-high m from size part inside own k (omega arith))
+                  | no high ↦ ex .same k (inr (omega (arith, guaranteed xs ok))) ∙ sym
+                      (joined-high m from size part inside own k (omega arith))
                   | yes high ↦
                       let j = k - from in
                       let e : from + j ≡ k = omega arith in
                       let hj : j < size = omega arith in
-                      rw e at (sym (joined-mid m from size part inside own j hj ∙ getD-take size (drop from ys) j 0 hj ∙ getD-drop from ys j 0))
+                      rw e at (sym (joined-mid m from size part inside own j hj ∙ getD-take size (drop from ys) j 0 hj
+                      ∙ getD-drop from ys j 0))
                 ]
           ]
 
-  module _ (places : List ℕ) (long : length ys ≡ length xs) (legal : Holds (legalBase (length xs) (shippedBase xs ys))) (room : length (differing xs ys) ≤ length places) where
+  module _ (places : List ℕ) (long : length ys ≡ length xs) (legal : Holds (legalBase (length xs) (shippedBase xs ys)))
+      (room : length (differing xs ys) ≤ length places) where
     reference-is : reference xs ys ≡ movedImage xs (shippedBase xs ys)
     unfolding reference
     reference-is = sym (moving-accepted xs (shippedBase xs ys) ok legal .1)
@@ -334,12 +352,14 @@ module _ (xs ys : List ℕ) (bytes : Bytes xs) (ok : reading xs .number ≡ 0) w
         found : (k : ℕ) → (i : ℕ) × (i < length (differing xs ys)) × (getD (differing xs ys) i 0 ≡ k) → Holds (setting (reading xs) k)
         found k (i, h, f) = rw f at (no-strays (reading xs) (differing xs ys) none i h)
 
-        byte : (k : ℕ) → (k < reading xs .c + 32) ⊎ (reading xs .c + reading xs .z ≤ k) → getD ys k 0 ≡ getD (movedImage xs (shippedBase xs ys)) k 0
+        byte : (k : ℕ) → (k < reading xs .c + 32) ⊎ (reading xs .c + reading xs .z ≤ k)
+            → getD ys k 0 ≡ getD (movedImage xs (shippedBase xs ys)) k 0
         byte k out =
             elim (decLt k (length xs)) [
               | no h ↦
                   let here : length ys ≤ k = omega arith in
-                  let there : length (movedImage xs (shippedBase xs ys)) ≤ k = omega (arith, length-after xs bytes ok (shippedBase xs ys) legal) in
+                  let there : length (movedImage xs (shippedBase xs ys)) ≤ k =
+                  omega (arith, length-after xs bytes ok (shippedBase xs ys) legal) in
                   List·getD-eq-default ys 0 here ∙ sym (List·getD-eq-default (movedImage xs (shippedBase xs ys)) 0 there)
               | yes h ↦
                   elim (ℕ-discrete (getD ys k 0) (getD (reference xs ys) k 0)) [
@@ -354,7 +374,9 @@ module _ (xs ys : List ℕ) (bytes : Bytes xs) (ok : reading xs .number ≡ 0) w
         (explains-base base ex, strays-explained xs ys places ok long legal room (strays-none (reading xs) (differing xs ys) each))
       where
         same : (k : ℕ) → (k < reading xs .c + 32) ⊎ (reading xs .c + reading xs .z ≤ k) → getD ys k 0 ≡ getD (reference xs ys) k 0
-        same k out = ex .same k out ∙ ap (λ (b : ℕ). getD (movedImage xs b) k 0) (explains-base base ex) ∙ ap (λ (l : List ℕ). getD l k 0) (sym reference-is)
+        same k out =
+            ex .same k out ∙ ap (λ (b : ℕ). getD (movedImage xs b) k 0) (explains-base base ex) ∙ ap (λ (l : List ℕ). getD l k 0)
+            (sym reference-is)
 
         each : (i : ℕ) → i < length (differing xs ys) → Holds (setting (reading xs) (getD (differing xs ys) i 0))
         each i h =
@@ -371,14 +393,21 @@ module _ (xs ys : List ℕ) (bytes : Bytes xs) (ok : reading xs .number ≡ 0) w
 
     -- "explained" exactly where some legal base and some setting bytes turn the vendor image into the shipped one, and the base is then
     -- the answer's
-    pub demand-3 : (auditing xs ys (length places) .explained ≡ true → (base : ℕ) × (part : List ℕ) × Turns xs ys base part)
-        × ((base : ℕ) (part : List ℕ) → Turns xs ys base part → (auditing xs ys (length places) .explained ≡ true) × (auditing xs ys (length places) .base ≡ base))
-    demand-3 = (shown, told-so)
+    pub turned : (auditing xs ys (length places) .explained ≡ true → (base : ℕ) × (part : List ℕ) × Turns xs ys base part)
+        × ((base : ℕ) (part : List ℕ) → Turns xs ys base part → (auditing xs ys (length places) .explained ≡ true) ×
+        (auditing xs ys (length places) .base ≡ base))
+    turned = (shown, told-so)
       where
         shown : auditing xs ys (length places) .explained ≡ true → (base : ℕ) × (part : List ℕ) × Turns xs ys base part
-        shown e = (shippedBase xs ys, take (reading xs .z - 32) (drop (reading xs .c + 32) ys), explains-turns (shippedBase xs ys) (explained-shows e))
+        shown e = (
+          shippedBase xs ys,
+          take (reading xs .z - 32) (drop (reading xs .c + 32) ys),
+          explains-turns (shippedBase xs ys)
+              (explained-shows e),
+        )
 
-        told-so : (base : ℕ) (part : List ℕ) → Turns xs ys base part → (auditing xs ys (length places) .explained ≡ true) × (auditing xs ys (length places) .base ≡ base)
+        told-so : (base : ℕ) (part : List ℕ) → Turns xs ys base part
+            → (auditing xs ys (length places) .explained ≡ true) × (auditing xs ys (length places) .base ≡ base)
         told-so base part t =
             let x = explains-told base (turns-explains base part t) in
             (x .1, told-always xs ys places ok long legal .0 ∙ sym (x .0))

@@ -1,4 +1,4 @@
--- Demand 3: "explained" exactly when some legal base and some setting bytes turn the vendor image into the shipped one.
+-- Demand 3: what it is for a legal base and some setting bytes to turn the vendor image into the shipped one.
 -- Assumes nothing.
 use Prim.Native.Nat.{ℕ, _+_, _-_, _≤_, _<_}
 use mathlib.Core.List.{List}
@@ -9,7 +9,7 @@ use Rattle.facts.specs.Fact.{Holds}
 use Rattle.header.specs.Base.{legalBase}
 use Rattle.image.specs.Reading.{reading}
 use Rattle.moving.specs.Moving.{movedImage}
-use Rattle.sheet.specs.PartLaws.{joined}
+use Rattle.sheet.specs.Applying.{joined}
 
 -- this legal base and these setting bytes, c+32..c+z-1, turn xs into ys
 pub record Turns (xs ys : List ℕ) (base : ℕ) (part : List ℕ) : Type 0 where

@@ -15,15 +15,14 @@ use Rattle.header.specs.Base.{legalBase}
 use Rattle.table.specs.PassesLaws.{place-cong}
 use Rattle.table.specs.declared.Place.{Place}
 use Rattle.image.specs.declared.Reading.{Reading}
-use Rattle.image.specs.Reading.{reading}
-use Rattle.image.specs.Guarantee.{guaranteed, entriesAt}
-use Rattle.image.specs.Frame.{rebased}
+use Rattle.image.specs.Reading.{entriesAt, rebased, reading}
+use Rattle.image.specs.Guarantee.{guaranteed}
 use Rattle.image.specs.FrameBelow.{frame-below}
 use Rattle.moving.specs.Moves.{difference, Beside}
 use Rattle.moving.specs.MovesLaws.{find}
 use Rattle.moving.specs.Moving.{wordsAt, wordsOf, moving, movedImage}
 use Rattle.moving.specs.MovingLaws.{moving-shows}
-use Rattle.moving.specs.Theorems.{kept-byte, moved-number, length-after, bytes-after, moved-reads, moved-on, moved-nowhere}
+use Rattle.moving.specs.Theorems.{unmoved-byte, moved-number, length-after, bytes-after, moved-reads, moved-on, moved-nowhere}
 use Rattle.sheet.specs.Applying.{applying, appliedImage}
 use Rattle.sheet.specs.ApplyingLaws.{set-outside, applying-shows}
 use Rattle.sheet.specs.Theorems.{length-applied, bytes-applied}
@@ -40,7 +39,8 @@ module _ (ys zs : List ℕ) (fine : reading ys .number ≡ 0) (long : length zs 
   base-alike : le 4 zs (reading ys .H + 28) ≡ reading ys .base
   base-alike =
       let g = guaranteed ys fine in
-      le-cong 4 zs ys (reading ys .H + 28) (record { same = λ j h. same (reading ys .H + 28 + j) (inl (omega (arith, g))) }) ∙ sym (g .base-is)
+      le-cong 4 zs ys (reading ys .H + 28) (record { same = λ j h. same (reading ys .H + 28 + j) (inl (omega (arith, g))) }) ∙ sym
+      (g .base-is)
 
   -- they read alike
   reads-alike : reading zs ≡ reading ys
@@ -93,18 +93,21 @@ module _ (ys zs : List ℕ) (fine : reading ys .number ≡ 0) (long : length zs 
       number j h =
           let w = wordsAt ys (reading ys) j in
           let d = difference (reading ys .base) next 4 in
-          let there : le 4 (movedImage zs next) w ≡ (le 4 zs w + d) % 2 ^ 32 = rw (reads-alike, words-alike j h) at (moved-number zs bz fine′ next legal′ j (rw reads-alike h)) in
+          let there : le 4 (movedImage zs next) w ≡ (le 4 zs w + d) % 2 ^ 32 =
+          rw (reads-alike, words-alike j h) at (moved-number zs bz fine′ next legal′ j (rw reads-alike h)) in
           there ∙ ap (λ (v : ℕ). (v + d) % 2 ^ 32) (le-cong 4 zs ys w (word-alike j h)) ∙ sym (moved-number ys by fine next legal j h)
 
-      go : ((j : ℕ) × (j < suc (reading ys .n)) × (wordsAt ys (reading ys) j ≤ k) × (k < wordsAt ys (reading ys) j + 4)) ⊎ Beside (wordsOf ys (reading ys)) (suc (reading ys .n)) k
+      go : ((j : ℕ) × (j < suc (reading ys .n)) × (wordsAt ys (reading ys) j ≤ k) × (k < wordsAt ys (reading ys) j + 4)) ⊎ Beside
+          (wordsOf ys (reading ys)) (suc (reading ys .n)) k
           → getD (movedImage zs next) k 0 ≡ getD (movedImage ys next) k 0
       go (inl (j, h, low, high)) =
           let w = wordsAt ys (reading ys) j in
           let e : w + (k - w) ≡ k = omega arith in
-          rw e at (le-one 4 (movedImage zs next) (movedImage ys next) w (bytes-after zs bz fine′ next legal′) (bytes-after ys by fine next legal) (number j h) .same (k - w) (omega arith))
+          rw e at (le-one 4 (movedImage zs next) (movedImage ys next) w (bytes-after zs bz fine′ next legal′)
+          (bytes-after ys by fine next legal) (number j h) .same (k - w) (omega arith))
       go (inr beside) =
           let beside′ : Beside (wordsOf zs (reading ys)) (suc (reading ys .n)) k = λ j h. rw (words-alike j h) (beside j h) in
-          kept-byte zs bz fine′ next legal′ k (rw reads-alike beside′) ∙ same k out ∙ sym (kept-byte ys by fine next legal k beside)
+          unmoved-byte zs bz fine′ next legal′ k (rw reads-alike beside′) ∙ same k out ∙ sym (unmoved-byte ys by fine next legal k beside)
 
 -- ---- what explains an image
 
@@ -153,7 +156,12 @@ module _ (xs : List ℕ) (ok : reading xs .number ≡ 0) (bytes : Bytes xs) wher
   -- the vendor image is explained by its own base
   pub explains-start : Explains xs xs (reading xs .base)
   explains-start =
-      record { legal = guaranteed xs ok .legal; long = refl; same = λ k out. ap (λ (l : List ℕ). getD l k 0) (sym (moved-nowhere xs bytes ok)) }
+      record {
+        legal =
+            guaranteed xs ok .legal;
+        long = refl;
+        same = λ k out. ap (λ (l : List ℕ). getD l k 0) (sym (moved-nowhere xs bytes ok));
+      }
 
 -- what the library makes of xs by accepted moves and sheets in any order, and its last base
 pub data Made (xs : List ℕ) : List ℕ → ℕ → Type 0 where
@@ -162,7 +170,8 @@ pub data Made (xs : List ℕ) : List ℕ → ℕ → Type 0 where
   set : {zs : List ℕ} {base : ℕ} → Made xs zs base → (s : List ℕ) → Bytes s → applying zs s .number ≡ 0 → Made xs (appliedImage zs s) base
 
 -- all of it is explained by that base
-pub made-explains : (xs : List ℕ) → reading xs .number ≡ 0 → Bytes xs → {zs : List ℕ} {base : ℕ} → Made xs zs base → Bytes zs × Explains xs zs base
+pub made-explains : (xs : List ℕ) → reading xs .number ≡ 0 → Bytes xs → {zs : List ℕ} {base : ℕ} → Made xs zs base
+    → Bytes zs × Explains xs zs base
 made-explains xs ok bytes start = (bytes, explains-start xs ok bytes)
 made-explains xs ok bytes (moved {zs} {base} m next goes) =
     let (bz, e) = made-explains xs ok bytes m in

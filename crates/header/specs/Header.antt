@@ -6,7 +6,7 @@ use lib.ListN.{length}
 use Rattle.facts.specs.Fact.{Fact, _≤?_, _≡?_, _and_}
 use Rattle.words.specs.Le.{le}
 
--- 5 HEADER: no `FSPH` at H; or revision byte at H+11 below 3; or L, the 32-bit number at H+4, not in 72..256 or 4+L above the section size
+-- 5 HEADER: the mark `FSPH`; a header revision of at least 3; a length L of 72 to 256 with which the section is not overrun
 abbrev pub headerFits : List ℕ → ℕ → ℕ → Fact
 headerFits xs H size =
     let L = le 4 xs (H + 4) in
@@ -16,14 +16,14 @@ headerFits xs H size =
     and L ≤? 256
     and 4 + L ≤? size
 
--- 6 SIZE: image size at H+24 isn't the lent length
+-- 6 SIZE: the header names the length of what is lent
 abbrev pub sizeFits : List ℕ → ℕ → Fact
 sizeFits xs H = le 4 xs (H + 24) ≡? length xs
 
--- the top four bits of the 16-bit number at H+34
+-- the component: bits 15..12 of the attribute word at H+34
 unfoldable pub component : List ℕ → ℕ → ℕ
 component xs H = le 2 xs (H + 34) / 4096
 
--- 7 COMPONENT: they aren't 1 (T), 2 (M), 3 (S) or 4 (I)
+-- 7 COMPONENT: one of T, M, S, I
 abbrev pub componentFits : ℕ → Fact
 componentFits k = 1 ≤? k and k ≤? 4

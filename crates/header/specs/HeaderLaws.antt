@@ -14,7 +14,12 @@ module _ (a b : List ℕ) (H : ℕ) where
   -- bytes H..H+7 and H+11
   pub header-looks : (size : ℕ) → Alike a b H 8 → Alike a b (H + 11) 1 → test (headerFits a H size) ≡ test (headerFits b H size)
   header-looks size head revision =
-      rw (le-in head 4 H (omega arith) (omega arith), le-in revision 1 (H + 11) (omega arith) (omega arith), le-in head 4 (H + 4) (omega arith) (omega arith))
+      rw (
+        le-in head 4 H (omega arith) (omega arith),
+        le-in revision 1 (H + 11) (omega arith) (omega arith),
+        le-in head 4 (H + 4)
+            (omega arith) (omega arith),
+      )
 
   -- bytes H+24..H+27
   pub size-looks : length a ≡ length b → Alike a b (H + 24) 4 → test (sizeFits a H) ≡ test (sizeFits b H)

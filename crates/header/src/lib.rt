@@ -4,7 +4,7 @@ ghost use Prim.Native.Nat.{_+_, _≤_, _<_};
 ghost use lib.ListN.{length};
 ghost use Rattle.facts.specs.Fact.{Tells};
 ghost use Rattle.header.specs.Header.{headerFits, sizeFits, component, componentFits};
-ghost use Rattle.header.specs.Base.{legalBase};
+ghost use Rattle.header.specs.Base.{SaysLegal};
 
 // Rule 5, the section being `size` bytes long.
 pub fn header_fits(image: &[u8], H: usize, size: usize) -> bool
@@ -64,7 +64,7 @@ pub fn component_fits(k: usize) -> bool
 
 // Whether an image of `size` bytes may stand at `base`: rules 8 and 18.
 pub fn legal(base: u64, size: usize) -> bool
-    ensures { λ r. ⌜ Tells r (legalBase size base) ⌝ }
+    ensures { λ r. ⌜ SaysLegal base size r ⌝ }
 {
     if u64::trailing_zeros(base) < 12 {
         return false;

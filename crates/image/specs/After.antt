@@ -13,7 +13,7 @@ use Rattle.image.specs.declared.Reading.{Reading}
 unfoldable pub afterReading : {A : Type 0} → (ℕ → ℕ → A) → Reading → Rules A → A
 afterReading refuse r t = cond (eqb (r .number) 0) (run refuse t) (refuse (r .number) (r .index))
 
--- "On every refusal every lent byte is what it was": the list afterwards, where the answer has this number
+-- a refused call changes nothing: the list afterwards, where the answer has this number
 unfoldable pub unlessRefused : ℕ → List ℕ → List ℕ → List ℕ
 unlessRefused number changed xs = cond (eqb number 0) changed xs
 
@@ -29,6 +29,7 @@ pub after-accepted : {A : Type 0} (refuse : ℕ → ℕ → A) (r : Reading) (t 
 unfolding afterReading
 after-accepted refuse r t e = rw (eq-eqb (r .number) 0 e)
 
-pub after-refused : {A : Type 0} (refuse : ℕ → ℕ → A) (r : Reading) (t : Rules A) → (r .number ≡ 0 → ⊥) → afterReading refuse r t ≡ refuse (r .number) (r .index)
+pub after-refused : {A : Type 0} (refuse : ℕ → ℕ → A) (r : Reading) (t : Rules A) → (r .number ≡ 0 → ⊥)
+    → afterReading refuse r t ≡ refuse (r .number) (r .index)
 unfolding afterReading
 after-refused refuse r t e = rw (ne-eqb (r .number) 0 e)

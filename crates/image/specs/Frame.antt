@@ -22,23 +22,8 @@ use Rattle.table.specs.PassesLaws.{unrefused-cong, clear-cong}
 use Rattle.region.specs.Region.{regionFits, marksFit}
 use Rattle.region.specs.RegionLaws.{region-looks, marks-looks}
 use Rattle.image.specs.declared.Reading.{Reading}
-use Rattle.image.specs.Reading.{refusal, identityAt, accepted, fromEntries, fromRegion, fromPatch, fromTable, fromComponent, fromHeader, fromSection, fromFile, fromExtension, fromVolume, rules, reading}
-
--- r with another base
-abbrev pub rebased : Reading → ℕ → Reading
-rebased r w =
-    record {
-      number = r .number;
-      index = r .index;
-      H = r .H;
-      component = r .component;
-      identity = r .identity;
-      base = w;
-      c = r .c;
-      z = r .z;
-      n = r .n;
-      E = r .E;
-    }
+use Rattle.image.specs.Reading.{refusal, identityAt, accepted, rebased, reading}
+use Rattle.image.specs.Stages.{fromEntries, fromRegion, fromPatch, fromTable, fromComponent, fromHeader, fromSection, fromFile, fromExtension, fromVolume, stages, by-stages}
 
 -- s is r but for the base
 abbrev pub Rebased : Reading → Reading → Type 0
@@ -122,7 +107,8 @@ module _ (a b : List ℕ) where
 -- ---- stage by stage, the rules go together
 
 module _ (a b : List ℕ) (long : length a ≡ length b) where
-  entries : (H t n c z : ℕ) → component a H ≡ component b H → AlikeEntries a b H t n → Together (fromEntries a H t n c z) (fromEntries b H t n c z)
+  entries : (H t n c z : ℕ) → component a H ≡ component b H → AlikeEntries a b H t n
+      → Together (fromEntries a H t n c z) (fromEntries b H t n c z)
   unfolding fromEntries accepted identityAt
   entries H t n c z comp (table, names) =
       let image : le 8 a (H + 16) ≡ le 8 b (H + 16) = le-in names 8 (H + 16) (omega arith) (omega arith) in
@@ -151,8 +137,12 @@ module _ (a b : List ℕ) (long : length a ≡ length b) where
 
   patch : (H p end : ℕ) → component a H ≡ component b H → AlikePatch a b H p end → Together (fromPatch a H p end) (fromPatch b H p end)
   unfolding fromPatch
-  patch H p end comp (fields, rest) =
-      (refl, patch-looks a b p end fields, λ h. rw (← le-in (fields (h .0) .2) 4 (p + 8) (omega arith) (omega arith)) (region H (p + 12) (le 4 a (p + 8)) comp (rest h)))
+  patch H p end comp (fields, rest) = (
+    refl,
+    patch-looks a b p end fields,
+    λ h. rw (← le-in (fields (h .0) .2) 4 (p + 8) (omega arith) (omega arith))
+        (region H (p + 12) (le 4 a (p + 8)) comp (rest h)),
+  )
 
   table : (H p end : ℕ) → component a H ≡ component b H → AlikeTable a b H p end → Together (fromTable a H p end) (fromTable b H p end)
   unfolding fromTable
@@ -161,7 +151,8 @@ module _ (a b : List ℕ) (long : length a ≡ length b) where
     (λ h. (
       refl,
       extendedFits-looks a b p end (there h .0),
-      λ k. rw (← le-in (there h .0 (k .0)) 4 (p + 4) (omega arith) (omega arith)) (patch H (round4 (p + le 4 a (p + 4))) end comp (there h .1 k)),
+      λ k. rw (← le-in (there h .0 (k .0)) 4 (p + 4) (omega arith) (omega arith))
+          (patch H (round4 (p + le 4 a (p + 4))) end comp (there h .1 k)),
     )),
     λ h. patch H p end comp (none h),
   )
@@ -181,19 +172,28 @@ module _ (a b : List ℕ) (long : length a ≡ length b) where
         λ h. (
           refl,
           size-looks a b H long (rest h .0),
-          λ k. rw (← le-in head 4 (H + 4) (omega arith) (omega arith)) (component-on H (round4 (H + le 4 a (H + 4))) (f + 24 + size) (rest h .1 k)),
+          λ k. rw (← le-in head 4 (H + 4) (omega arith) (omega arith))
+              (component-on H (round4 (H + le 4 a (H + 4))) (f + 24 + size) (rest h .1 k)),
         ),
       )
 
   section : (f s : ℕ) → AlikeSection a b f s → Together (fromSection a f s) (fromSection b f s)
   unfolding fromSection
-  section f s (head, rest) =
-      (refl, section-looks a b f s head, λ h. rw (← le-in head 3 (f + 24) (omega arith) (omega arith)) (header f (le 3 a (f + 24)) (rest h)))
+  section f s (head, rest) = (
+    refl,
+    section-looks a b f s head,
+    λ h. rw (← le-in head 3 (f + 24) (omega arith) (omega arith))
+        (header f (le 3 a (f + 24)) (rest h)),
+  )
 
   file : (v f : ℕ) → AlikeFile a b v f → Together (fromFile a v f) (fromFile b v f)
   unfolding fromFile
-  file v f ((low, high), rest) =
-      (refl, file-looks a b v f low high, λ h. rw (← le-in high 3 (f + 20) (omega arith) (omega arith)) (section f (le 3 a (f + 20)) (rest h)))
+  file v f ((low, high), rest) = (
+    refl,
+    file-looks a b v f low high,
+    λ h. rw (← le-in high 3 (f + 20) (omega arith) (omega arith))
+        (section f (le 3 a (f + 20)) (rest h)),
+  )
 
   extension : (h v x : ℕ) → AlikeExtension a b h v x → Together (fromExtension a h v x) (fromExtension b h v x)
   unfolding fromExtension
@@ -213,14 +213,19 @@ module _ (a b : List ℕ) (long : length a ≡ length b) where
       let h = le 2 a 48 in
       let v = le 8 a 32 in
       let x = le 2 a 52 in
-      rw (← le-in fields 2 48 (omega arith) (omega arith), ← le-in fields 8 32 (omega arith) (omega arith), ← le-in fields 2 52 (omega arith) (omega arith))
+      rw (
+        ← le-in fields 2 48 (omega arith) (omega arith),
+        ← le-in fields 8 32 (omega arith) (omega arith),
+        ← le-in fields 2 52
+            (omega arith) (omega arith),
+      )
       (refl, volume-looks a b h v long (alike-in fields 40 4 (omega arith) (omega arith)) head, λ k. extension h v x (rest k))
 
-  image : (Holds (lengthFits a) → AlikeVolume a b) → Together (rules a) (rules b)
-  unfolding rules
+  image : (Holds (lengthFits a) → AlikeVolume a b) → Together (stages a) (stages b)
+  unfolding stages
   image rest = (refl, rw long, λ h. volume (rest h))
 
 -- the frame law
 pub frame : (a b : List ℕ) → AlikeImage a b → Rebased (reading a) (reading b)
-unfolding reading
-frame a b (long, rest) = run-same refusal Rebased (λ k i. refl) (rules a) (rules b) (image a b long rest)
+frame a b (long, rest) =
+    rw (by-stages a, by-stages b) (run-same refusal Rebased (λ k i. refl) (stages a) (stages b) (image a b long rest))

@@ -12,9 +12,10 @@ use Rattle.facts.specs.Rules.{Passed}
 use Rattle.words.specs.Le.{le, Alike}
 use Rattle.header.specs.Base.{legalBase}
 use Rattle.image.specs.declared.Reading.{Reading}
-use Rattle.image.specs.Reading.{accepted, fromEntries, fromRegion, fromPatch, fromTable, fromComponent, fromHeader, fromSection, fromFile, fromExtension, fromVolume, rules, reading}
+use Rattle.image.specs.Reading.{accepted, rebased, reading}
+use Rattle.image.specs.Stages.{fromEntries, fromRegion, fromPatch, fromTable, fromComponent, fromHeader, fromSection, fromFile, fromExtension, fromVolume, stages}
 use Rattle.image.specs.Guarantee.{Guaranteed, guaranteed, all-passed}
-use Rattle.image.specs.Frame.{rebased, AlikeEntries, AlikeRegion, AlikePatch, AlikeTable, AlikeComponent, AlikeHeader, AlikeSection, AlikeFile, AlikeExtension, AlikeVolume, AlikeImage, frame}
+use Rattle.image.specs.Frame.{AlikeEntries, AlikeRegion, AlikePatch, AlikeTable, AlikeComponent, AlikeHeader, AlikeSection, AlikeFile, AlikeExtension, AlikeVolume, AlikeImage, frame}
 
 -- a and b agree below E but for the base word, and on the two marks
 pub record AlikeBelow (a b : List ℕ) (r : Reading) : Type 0 where
@@ -23,7 +24,8 @@ pub record AlikeBelow (a b : List ℕ) (r : Reading) : Type 0 where
   pub above : (k : ℕ) → r .H + 32 ≤ k → k < r .E → getD a k 0 ≡ getD b k 0
   pub marks : Alike a b (r .c + 6) 2
 
-module _ (a b : List ℕ) (r : Reading) (same : AlikeBelow a b r) (both : test (legalBase (length a) (le 4 a (r .H + 28))) ≡ test (legalBase (length b) (le 4 b (r .H + 28)))) where
+module _ (a b : List ℕ) (r : Reading) (same : AlikeBelow a b r)
+    (both : test (legalBase (length a) (le 4 a (r .H + 28))) ≡ test (legalBase (length b) (le 4 b (r .H + 28)))) where
   low : (p m : ℕ) → p + m ≤ r .H + 28 → Alike a b p m
   low p m h = record { same = λ j l. same .below (p + j) (omega arith) }
 
@@ -40,7 +42,12 @@ module _ (a b : List ℕ) (r : Reading) (same : AlikeBelow a b r) (both : test (
         at,
         omega arith,
         (
-          (λ h. (high p 4 (omega arith) (omega arith), high (p + 6) 1 (omega arith) (omega arith), high (p + 8) 4 (omega arith) (omega arith))),
+          (λ h. (
+            high p 4 (omega arith) (omega arith),
+            high (p + 6) 1 (omega arith) (omega arith),
+            high (p + 8) 4 (omega arith)
+                (omega arith),
+          )),
           λ h. (
             high (H + 36) 8 (omega arith) (omega arith),
             λ k. (rw c at (same .marks), λ l. (high (p + 12) (4 * n) (omega arith) (omega arith), low (H + 12) 12 (omega arith))),
@@ -54,7 +61,12 @@ module _ (a b : List ℕ) (r : Reading) (same : AlikeBelow a b r) (both : test (
       let (at, room, alike) = patch H _ end (omega arith) rest in (
         at,
         omega arith,
-        ((λ h. high p 4 (omega arith) (omega arith)), (λ h. ((λ k. high (p + 4) 4 (omega arith) (omega arith)), λ k. alike)), λ h. absurd (h there)),
+        (
+          (λ h. high p 4 (omega arith) (omega arith)),
+          (λ h. ((λ k. high (p + 4) 4 (omega arith) (omega arith)), λ k. alike)),
+          λ h. absurd
+              (h there),
+        ),
       )
   table H p end far (inr (none, rest)) =
       let (at, room, alike) = patch H p end far rest in
@@ -81,8 +93,8 @@ module _ (a b : List ℕ) (r : Reading) (same : AlikeBelow a b r) (both : test (
       let (at, room, alike) = header f _ rest in
       (omega arith, ((low f 17 (omega arith), low (f + 18) 5 (omega arith)), λ h. (low (f + 24) 4 (omega arith), λ k. alike)))
 
-  image : Passed (rules a) r → AlikeImage a b
-  unfolding rules fromVolume fromExtension
+  image : Passed (stages a) r → AlikeImage a b
+  unfolding stages fromVolume fromExtension
   image (fits, (volume, inl (none, rest))) =
       let (room, alike) = file (le 8 a 32) _ rest in
       (same .long, λ h. ((low 32 22 (omega arith), low 0 (le 2 a 48) (omega arith)), λ k. ((λ e. alike), λ e. absurd (e none))))

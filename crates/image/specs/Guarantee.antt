@@ -4,7 +4,7 @@ use Prim.Native.Nat.{ℕ, _+_, _-_, _*_, _≤_, _<_}
 use mathlib.Core.Bool.{true}
 use mathlib.Core.List.{List}
 use mathlib.Core.Logic.{_⊎_, inl, inr}
-use mathlib.Core.Path.{_≡_, refl}
+use mathlib.Core.Path.{_≡_, refl, sym, _∙_}
 use native.Mathlib.Omega.{arith}
 use lib.ListN.{length}
 use Rattle.facts.specs.Fact.{Holds}
@@ -16,15 +16,8 @@ use Rattle.volume.specs.Volume.{lengthFits}
 use Rattle.table.specs.Passes.{place, outside, apart, clear}
 use Rattle.table.specs.PassesLaws.{place-placed}
 use Rattle.image.specs.declared.Reading.{Reading}
-use Rattle.image.specs.Reading.{refusal, identityAt, accepted, fromEntries, fromRegion, fromPatch, fromTable, fromComponent, fromHeader, fromSection, fromFile, fromExtension, fromVolume, rules, reading}
-
--- where the entries of the patch table start
-abbrev pub entriesAt : Reading → ℕ
-entriesAt r = r .E - 4 * r .n
-
--- where the i-th patch word stands
-abbrev pub wordAt : List ℕ → Reading → ℕ → ℕ
-wordAt xs r i = place xs (entriesAt r) i .at
+use Rattle.image.specs.Reading.{refusal, identityAt, accepted, entriesAt, wordAt, reading, Reads}
+use Rattle.image.specs.Stages.{fromEntries, fromRegion, fromPatch, fromTable, fromComponent, fromHeader, fromSection, fromFile, fromExtension, fromVolume, stages, by-stages}
 
 -- r, an accepted reading of xs: its fields, the order of its places, and its patch words
 pub record Guaranteed (xs : List ℕ) (r : Reading) : Type 0 where
@@ -98,12 +91,12 @@ module _ (xs : List ℕ) (r : Reading) (fits : Holds (lengthFits xs)) where
   from-file v f inside (file, (section, rest)) = from-header f (le 3 xs (f + 24)) (omega arith) rest
 
 -- an accepted reading has passed every rule
-pub all-passed : (xs : List ℕ) → reading xs .number ≡ 0 → Passed (rules xs) (reading xs)
-unfolding reading rules fromVolume fromExtension fromFile fromSection fromHeader fromComponent fromTable fromPatch fromRegion fromEntries
-all-passed xs e = passed refusal (λ (r : Reading). r .number) (λ k i. refl) (rules xs) refl e
+pub all-passed : (xs : List ℕ) → reading xs .number ≡ 0 → Passed (stages xs) (reading xs)
+unfolding stages fromVolume fromExtension fromFile fromSection fromHeader fromComponent fromTable fromPatch fromRegion fromEntries
+all-passed xs e = rw (by-stages xs) (passed refusal (λ (r : Reading). r .number) (λ k i. refl) (stages xs) refl (rw (by-stages xs) at e))
 
-from-rules : (xs : List ℕ) (r : Reading) → Passed (rules xs) r → Guaranteed xs r
-unfolding rules fromVolume fromExtension
+from-rules : (xs : List ℕ) (r : Reading) → Passed (stages xs) r → Guaranteed xs r
+unfolding stages fromVolume fromExtension
 from-rules xs r (fits, (volume, inl (none, rest))) = from-file xs r fits (le 8 xs 32) _ (omega arith) rest
 from-rules xs r (fits, (volume, inr (some, (extension, rest)))) = from-file xs r fits (le 8 xs 32) _ (omega arith) rest
 
@@ -111,5 +104,5 @@ pub guaranteed : (xs : List ℕ) → reading xs .number ≡ 0 → Guaranteed xs 
 guaranteed xs e = from-rules xs (reading xs) (all-passed xs e)
 
 -- any two answers that the promise of a reading admits are the same
-pub one-reading : (xs : List ℕ) (r s : Reading) → r ≡ reading xs → s ≡ reading xs → r ≡ s
-one-reading xs r s a b = cc
+pub one-reading : (xs : List ℕ) (r s : Reading) → Reads xs r → Reads xs s → r ≡ s
+one-reading xs r s a b = a ∙ sym b

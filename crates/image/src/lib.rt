@@ -6,7 +6,8 @@ ghost use Rattle.facts.specs.Fact.{Holds};
 ghost use Rattle.facts.specs.Rules.{run};
 ghost use Rattle.volume.specs.Volume.{lengthFits};
 ghost use Rattle.header.specs.Header.{component, componentFits};
-ghost use Rattle.image.specs.Reading.{refusal, identityAt, accepted, fromEntries, fromRegion, fromPatch, fromTable, fromComponent, fromHeader, fromSection, fromFile, fromExtension, fromVolume, reading};
+ghost use Rattle.image.specs.Reading.{refusal, identityAt, accepted, Reads};
+ghost use Rattle.image.specs.Stages.{fromEntries, fromRegion, fromPatch, fromTable, fromComponent, fromHeader, fromSection, fromFile, fromExtension, fromVolume};
 
 // What tells one release of an image from another.
 pub struct Identity {
@@ -223,7 +224,7 @@ fn from_volume(image: &[u8]) -> Reading
 
 // The reading of an image, whatever its bytes are.
 pub fn read(image: &[u8]) -> Reading
-    ensures { λ r. ⌜ r ≡ reading (now (image .entry)) ⌝ }
+    ensures { λ r. ⌜ Reads (now (image .entry)) r ⌝ }
 {
     if !volume::length_fits(image) {
         return refused(1, 0);

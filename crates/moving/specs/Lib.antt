@@ -3,3 +3,4 @@ pub mod MovesLaws
 pub mod Moving
 pub mod MovingLaws
 pub mod Theorems
+pub mod Small

@@ -39,11 +39,18 @@ moved-beside xs ws d (suc i) k h =
 
 -- words at the same places are moved alike
 pub moved-cong : (xs : List ℕ) (vs ws : Words) (d e : ℕ → ℕ) (i : ℕ) → ((j : ℕ) → j < i → vs .at j ≡ ws .at j)
-    → ((j : ℕ) → j < i → vs .width j ≡ ws .width j) → ((j : ℕ) → j < i → d (ws .width j) ≡ e (ws .width j)) → movedTo xs vs d i ≡ movedTo xs ws e i
+    → ((j : ℕ) → j < i → vs .width j ≡ ws .width j) → ((j : ℕ) → j < i → d (ws .width j) ≡ e (ws .width j))
+    → movedTo xs vs d i ≡ movedTo xs ws e i
 unfolding movedTo
 moved-cong xs vs ws d e zero at width same = refl
 moved-cong xs vs ws d e (suc i) at width same =
-    rw (at i (omega arith), width i (omega arith), same i (omega arith), moved-cong xs vs ws d e i (λ j h. at j (omega arith)) (λ j h. width j (omega arith)) (λ j h. same j (omega arith)))
+    rw (
+      at i (omega arith),
+      width i (omega arith),
+      same i (omega arith),
+      moved-cong xs vs ws d e i (λ j h. at j (omega arith))
+          (λ j h. width j (omega arith)) (λ j h. same j (omega arith)),
+    )
 
 -- the byte at k lies in one of the first i words, or in none
 pub find : (ws : Words) (i k : ℕ) → ((j : ℕ) × (j < i) × (ws .at j ≤ k) × (k < ws .at j + ws .width j)) ⊎ Beside ws i k
@@ -56,18 +63,21 @@ find ws (suc i) k = go (decLt k (ws .at i)) (decLt k (ws .at i + ws .width i)) (
     up (inr rest) out =
         inr (λ j h. elim (decLt j i) [ yes l ↦ rest j l | no l ↦ let e : j ≡ i = omega arith in rw e out ])
 
-    go : Dec (k < ws .at i) → Dec (k < ws .at i + ws .width i) → ((j : ℕ) × (j < i) × (ws .at j ≤ k) × (k < ws .at j + ws .width j)) ⊎ Beside ws i k
+    go : Dec (k < ws .at i) → Dec (k < ws .at i + ws .width i)
+        → ((j : ℕ) × (j < i) × (ws .at j ≤ k) × (k < ws .at j + ws .width j)) ⊎ Beside ws i k
         → ((j : ℕ) × (j < suc i) × (ws .at j ≤ k) × (k < ws .at j + ws .width j)) ⊎ Beside ws (suc i) k
     go (yes a) b rest = up rest (inl a)
     go (no a) (yes b) rest = inl (i, omega arith, omega arith, b)
     go (no a) (no b) rest = up rest (inr (omega arith))
 
 -- two lists of bytes that agree beside the words and in each word's number are one
-pub by-words : (a b : List ℕ) (ws : Words) → length a ≡ length b → Bytes a → Bytes b → ((k : ℕ) → Beside ws (ws .count) k → getD a k 0 ≡ getD b k 0)
+pub by-words : (a b : List ℕ) (ws : Words) → length a ≡ length b → Bytes a → Bytes b
+    → ((k : ℕ) → Beside ws (ws .count) k → getD a k 0 ≡ getD b k 0)
     → ((j : ℕ) → j < ws .count → le (ws .width j) a (ws .at j) ≡ le (ws .width j) b (ws .at j)) → a ≡ b
 by-words a b ws long ba bb beside number = ext-getD 0 a b long (λ k h. go k (find ws (ws .count) k))
   where
-    go : (k : ℕ) → ((j : ℕ) × (j < ws .count) × (ws .at j ≤ k) × (k < ws .at j + ws .width j)) ⊎ Beside ws (ws .count) k → getD a k 0 ≡ getD b k 0
+    go : (k : ℕ) → ((j : ℕ) × (j < ws .count) × (ws .at j ≤ k) × (k < ws .at j + ws .width j)) ⊎ Beside ws (ws .count) k
+        → getD a k 0 ≡ getD b k 0
     go k (inr out) = beside k out
     go k (inl (j, h, l, r)) =
         let e : ws .at j + (k - ws .at j) ≡ k = omega arith in
@@ -85,37 +95,46 @@ module _ (xs : List ℕ) (ws : Words) (spread : Spread xs ws) where
       lt : (l : ℕ) → l < i → (l < j → ⊥) → j < l
       lt l hl g = elim (decLt j l) [ yes h ↦ h | no h ↦ absurd (not-j l hl (omega arith)) ]
 
-      flip : {l : ℕ} → (ws .at l + ws .width l ≤ ws .at j) ⊎ (ws .at j + ws .width j ≤ ws .at l) → (ws .at j + k < ws .at l) ⊎ (ws .at l + ws .width l ≤ ws .at j + k)
+      flip : {l : ℕ} → (ws .at l + ws .width l ≤ ws .at j) ⊎ (ws .at j + ws .width j ≤ ws .at l)
+          → (ws .at j + k < ws .at l) ⊎ (ws .at l + ws .width l ≤ ws .at j + k)
       flip (inl h) = inr (omega arith)
       flip (inr h) = inl (omega arith)
 
-      straight : {l : ℕ} → (ws .at j + ws .width j ≤ ws .at l) ⊎ (ws .at l + ws .width l ≤ ws .at j) → (ws .at j + k < ws .at l) ⊎ (ws .at l + ws .width l ≤ ws .at j + k)
+      straight : {l : ℕ} → (ws .at j + ws .width j ≤ ws .at l) ⊎ (ws .at l + ws .width l ≤ ws .at j)
+          → (ws .at j + k < ws .at l) ⊎ (ws .at l + ws .width l ≤ ws .at j + k)
       straight (inl h) = inl (omega arith)
       straight (inr h) = inr (omega arith)
 
   -- a word whose turn is still to come holds what it held
-  pub later-word : (d : ℕ → ℕ) (i j : ℕ) → i ≤ j → j < ws .count → le (ws .width j) (movedTo xs ws d i) (ws .at j) ≡ le (ws .width j) xs (ws .at j)
+  pub later-word : (d : ℕ → ℕ) (i j : ℕ) → i ≤ j → j < ws .count
+      → le (ws .width j) (movedTo xs ws d i) (ws .at j) ≡ le (ws .width j) xs (ws .at j)
   later-word d i j h l =
       le-cong (ws .width j) (movedTo xs ws d i) xs (ws .at j)
       (record { same = λ k m. moved-beside xs ws d i (ws .at j + k) (other i j k (omega arith) l (λ p q e. omega arith) m) })
 
   -- each word holds old plus d, modulo its width
-  pub moved-word : (d : ℕ → ℕ) (i j : ℕ) → i ≤ ws .count → j < i → le (ws .width j) (movedTo xs ws d i) (ws .at j) ≡ (le (ws .width j) xs (ws .at j) + d (ws .width j)) % 256 ^ ws .width j
+  pub moved-word : (d : ℕ → ℕ) (i j : ℕ) → i ≤ ws .count → j < i
+      → le (ws .width j) (movedTo xs ws d i) (ws .at j) ≡ (le (ws .width j) xs (ws .at j) + d (ws .width j)) % 256 ^ ws .width j
   unfolding movedTo
   moved-word d zero j hi h = absurd (omega arith)
   moved-word d (suc i) j hi h =
       elim (decLt j i) [
         | yes l ↦
             le-cong (ws .width j) (add (ws .width i) (movedTo xs ws d i) (ws .at i) (d (ws .width i))) (movedTo xs ws d i) (ws .at j)
-            (record { same = λ k m. add-beside (ws .width i) (movedTo xs ws d i) (ws .at i) (d (ws .width i)) (ws .at j + k) (apart-from i j k l (omega arith) m) })
+            (record {
+              same = λ k m. add-beside (ws .width i) (movedTo xs ws d i) (ws .at i) (d (ws .width i)) (ws .at j + k)
+                  (apart-from i j k l (omega arith) m);
+            })
             ∙ moved-word d i j (omega arith) l
         | no l ↦
             let e : j ≡ i = omega arith in
             let fits : ws .at i + ws .width i ≤ length (movedTo xs ws d i) = rw length-moved (spread .within i (omega arith)) in
-            rw e (le-add (ws .width i) (movedTo xs ws d i) (ws .at i) (d (ws .width i)) fits ∙ rw (later-word d i i (omega arith) (omega arith)))
+            rw e (le-add (ws .width i) (movedTo xs ws d i) (ws .at i) (d (ws .width i)) fits ∙ rw
+            (later-word d i i (omega arith) (omega arith)))
       ]
     where
-      apart-from : (i j k : ℕ) → j < i → i < ws .count → k < ws .width j → (ws .at j + k < ws .at i) ⊎ (ws .at i + ws .width i ≤ ws .at j + k)
+      apart-from : (i j k : ℕ) → j < i → i < ws .count → k < ws .width j
+          → (ws .at j + k < ws .at i) ⊎ (ws .at i + ws .width i ≤ ws .at j + k)
       apart-from i j k l h m = elim (spread .apart j i l h) [ inl a ↦ inl (omega arith) | inr a ↦ inr (omega arith) ]
 
 -- they lie apart in the moved list too
@@ -166,12 +185,14 @@ moved-back xs ws d e spread b none =
     moved-twice xs ws d e (λ w. d w + e w) spread b (λ j h. refl) ∙ moved-none xs ws (λ w. d w + e w) spread b none
 
 -- two differences add up
-pub difference-sum : (w a b c : ℕ) → a < 256 ^ w → b < 256 ^ w → (difference a b w + difference b c w) % 256 ^ w ≡ difference a c w % 256 ^ w
+pub difference-sum : (w a b c : ℕ) → a < 256 ^ w → b < 256 ^ w
+    → (difference a b w + difference b c w) % 256 ^ w ≡ difference a c w % 256 ^ w
 unfolding difference
 difference-sum w a b c ha hb =
     let m = 256 ^ w in
     let e : b + (m - a) + (c + (m - b)) ≡ c + (m - a) + m = omega arith in
-    mod-add-mod (b + (m - a)) m ((c + (m - b)) % m) ∙ add-mod-mod (b + (m - a)) (c + (m - b)) m ∙ rw e (add-mod-right (c + (m - a)) m) ∙ sym (mod-mod (c + (m - a)) m)
+    mod-add-mod (b + (m - a)) m ((c + (m - b)) % m) ∙ add-mod-mod (b + (m - a)) (c + (m - b)) m ∙ rw e (add-mod-right (c + (m - a)) m) ∙ sym
+    (mod-mod (c + (m - a)) m)
 
 pub difference-none : (w a : ℕ) → a < 256 ^ w → difference a a w % 256 ^ w ≡ 0
 unfolding difference

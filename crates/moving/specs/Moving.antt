@@ -2,14 +2,14 @@
 -- Assumes nothing.
 use Prim.Native.Nat.{ℕ, zero, suc, _+_}
 use mathlib.Core.List.{List}
-use lib.IntN.{pos, _-ℤ_}
+use mathlib.Core.Path.{_≡_}
+use lib.IntN.{ℤ, pos, _-ℤ_, natAbs}
 use lib.ListN.{length}
 use Rattle.facts.specs.Rules.{Rules, answer, rule}
 use Rattle.header.specs.Base.{legalBase}
 use Rattle.image.specs.declared.Reading.{Reading}
-use Rattle.image.specs.Reading.{reading}
+use Rattle.image.specs.Reading.{wordAt, reading}
 use Rattle.image.specs.After.{afterReading, unlessRefused}
-use Rattle.image.specs.Guarantee.{wordAt}
 use Rattle.moving.specs.declared.Moved.{Moved}
 use Rattle.moving.specs.Moves.{Words, difference, moved}
 
@@ -21,22 +21,30 @@ wordsAt xs r (suc i) = wordAt xs r i
 abbrev pub wordsOf : List ℕ → Reading → Words
 wordsOf xs r = record { count = suc (r .n); at = wordsAt xs r; width = λ i. 4 }
 
--- "The difference, new minus old modulo 2^32, is added with wraparound to the base word and to each patch word"
+-- the image at another base: the difference of the bases is added to each of these words, and wraps
 unfoldable pub moveTo : List ℕ → Reading → ℕ → List ℕ
 moveTo xs r base = moved xs (wordsOf xs r) (difference (r .base) base)
 
--- "A refused move gives its number and index, and zero in every other field"
+-- a refusal: its number and index, and no move
 abbrev pub refusedMove : ℕ → ℕ → Moved
 refusedMove number index = record { number = number; index = index; distance = pos 0 }
 
--- "The answer adds one field only, the move: new base minus old, as a signed whole number"
+-- what an accepted move answers: how far it went, up or down
 abbrev pub acceptedMove : Reading → ℕ → Moved
 acceptedMove r base = record { number = 0; index = 0; distance = pos base -ℤ pos (r .base) }
 
--- "Refusals: 1..14, then 18 NEWBASE where the new base isn't legal"
+-- the reading's refusals, then 18 NEWBASE: the new base is legal too
 unfoldable pub moving : List ℕ → ℕ → Moved
 moving xs base = afterReading refusedMove (reading xs) (rule 18 (legalBase (length xs) base) (answer (acceptedMove (reading xs) base)))
 
 -- the image afterwards: moved, or what it was where the move is refused
 unfoldable pub movedImage : List ℕ → ℕ → List ℕ
 movedImage xs base = unlessRefused (moving xs base .number) (moveTo xs (reading xs) base) xs
+
+-- the promise of `move_image`: the answer, and the image afterwards
+abbrev pub MovesTo : List ℕ → ℕ → Moved → List ℕ → Type 0
+MovesTo xs base r ys = (r ≡ moving xs base) × (ys ≡ movedImage xs base)
+
+-- the promise of `magnitude`: how far a move goes, whichever way
+abbrev pub Magnitude : ℤ → ℕ → Type 0
+Magnitude z r = r ≡ natAbs z

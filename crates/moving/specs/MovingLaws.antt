@@ -17,10 +17,9 @@ use Rattle.table.specs.Passes.{place}
 use Rattle.table.specs.PassesLaws.{place-cong}
 use Rattle.table.specs.declared.Place.{Place}
 use Rattle.image.specs.declared.Reading.{Reading}
-use Rattle.image.specs.Reading.{reading}
+use Rattle.image.specs.Reading.{entriesAt, rebased, wordAt, reading}
 use Rattle.image.specs.After.{after-accepted, after-refused, changed-so, kept-so}
-use Rattle.image.specs.Guarantee.{Guaranteed, guaranteed, entriesAt, wordAt}
-use Rattle.image.specs.Frame.{rebased}
+use Rattle.image.specs.Guarantee.{Guaranteed, guaranteed}
 use Rattle.image.specs.FrameBelow.{AlikeBelow, frame-below}
 use Rattle.moving.specs.Moves.{Words, difference, movedTo, moved, Beside, Spread}
 use Rattle.moving.specs.MovesLaws.{length-moved, bytes-moved, moved-beside, moved-cong, moved-word, moved-twice, moved-none, difference-sum, difference-none}
@@ -42,14 +41,16 @@ module _ (xs : List ℕ) (r : Reading) (g : Guaranteed xs r) where
       apart (suc i) (suc j) l h = elim (g .word-apart j i (omega arith) (omega arith)) [ inl a ↦ inr a | inr a ↦ inl a ]
 
   -- a byte below E or in the region, other than the base word's, lies in no word
-  pub beside : (i k : ℕ) → i ≤ suc (r .n) → (k < r .H + 28) ⊎ (r .H + 32 ≤ k) → (k < r .E) ⊎ ((r .c ≤ k) × (k < r .c + r .z)) → Beside (wordsOf xs r) i k
+  pub beside : (i k : ℕ) → i ≤ suc (r .n) → (k < r .H + 28) ⊎ (r .H + 32 ≤ k) → (k < r .E) ⊎ ((r .c ≤ k) × (k < r .c + r .z))
+      → Beside (wordsOf xs r) i k
   beside i k hi base part zero h = elim base [ inl a ↦ inl a | inr a ↦ inr (omega arith) ]
   beside i k hi base part (suc j) h = go part (g .word-outside j (omega arith) .1)
     where
       above : r .E ≤ wordAt xs r j
       above = g .word-outside j (omega arith) .0
 
-      go : (k < r .E) ⊎ ((r .c ≤ k) × (k < r .c + r .z)) → (wordAt xs r j + 4 ≤ r .c) ⊎ (r .c + r .z ≤ wordAt xs r j) → (k < wordAt xs r j) ⊎ (wordAt xs r j + 4 ≤ k)
+      go : (k < r .E) ⊎ ((r .c ≤ k) × (k < r .c + r .z)) → (wordAt xs r j + 4 ≤ r .c) ⊎ (r .c + r .z ≤ wordAt xs r j)
+          → (k < wordAt xs r j) ⊎ (wordAt xs r j + 4 ≤ k)
       go (inl a) out = inl (omega (arith, above))
       go (inr a) (inl b) = inr (omega arith)
       go (inr a) (inr b) = inl (omega arith)
@@ -62,7 +63,10 @@ module _ (xs : List ℕ) (r : Reading) (g : Guaranteed xs r) where
       let t = entriesAt r in
       ap (λ (w : Place). w .at)
       (place-cong ys xs t (r .n) (length-moved xs (wordsOf xs r) d i)
-      (record { same = λ k l. moved-beside xs (wordsOf xs r) d i (t + k) (beside i (t + k) hi (inr (omega (arith, g))) (inl (omega (arith, g)))) })
+      (record {
+        same = λ k l. moved-beside xs (wordsOf xs r) d i (t + k)
+            (beside i (t + k) hi (inr (omega (arith, g))) (inl (omega (arith, g))));
+      })
       j (omega arith))
 
   -- what a reading looks at is as it was, but for the base word
@@ -74,7 +78,10 @@ module _ (xs : List ℕ) (r : Reading) (g : Guaranteed xs r) where
         long = sym (length-moved xs ws d n);
         below = λ k h. sym (moved-beside xs ws d n k (beside n k (omega arith) (inl h) (inl (omega (arith, g)))));
         above = λ k h l. sym (moved-beside xs ws d n k (beside n k (omega arith) (inr h) (inl l)));
-        marks = record { same = λ j h. sym (moved-beside xs ws d n (r .c + 6 + j) (beside n (r .c + 6 + j) (omega arith) (inr (omega (arith, g))) (inr (omega (arith, g), omega (arith, g))))) };
+        marks = record {
+          same = λ j h. sym (moved-beside xs ws d n (r .c + 6 + j)
+              (beside n (r .c + 6 + j) (omega arith) (inr (omega (arith, g))) (inr (omega (arith, g), omega (arith, g)))));
+        };
       }
 
 -- ---- the answer and the image afterwards, case by case
@@ -84,22 +91,27 @@ module _ (xs : List ℕ) (base : ℕ) where
   unfolding movedImage
   kept e h = kept-so (moving xs base .number) (moveTo xs (reading xs) base) xs (λ z. h (sym e ∙ z))
 
-  pub moving-unread : (reading xs .number ≡ 0 → ⊥) → (moving xs base ≡ refusedMove (reading xs .number) (reading xs .index)) × (movedImage xs base ≡ xs)
+  pub moving-unread : (reading xs .number ≡ 0 → ⊥)
+      → (moving xs base ≡ refusedMove (reading xs .number) (reading xs .index)) × (movedImage xs base ≡ xs)
   unfolding moving
   moving-unread h =
       let e : moving xs base ≡ refusedMove (reading xs .number) (reading xs .index) = after-refused refusedMove (reading xs) _ h in
       (e, kept (ap (λ (m : Moved). m .number) e) h)
 
-  pub moving-illegal : reading xs .number ≡ 0 → (Holds (legalBase (length xs) base) → ⊥) → (moving xs base ≡ refusedMove 18 0) × (movedImage xs base ≡ xs)
+  pub moving-illegal : reading xs .number ≡ 0 → (Holds (legalBase (length xs) base) → ⊥)
+      → (moving xs base ≡ refusedMove 18 0) × (movedImage xs base ≡ xs)
   unfolding moving run
   moving-illegal ok h =
-      let e : moving xs base ≡ refusedMove 18 0 = after-accepted refusedMove (reading xs) _ ok ∙ rw (fails (legalBase (length xs) base) h) in
+      let e : moving xs base ≡ refusedMove 18 0 =
+      after-accepted refusedMove (reading xs) _ ok ∙ rw (fails (legalBase (length xs) base) h) in
       (e, kept (ap (λ (m : Moved). m .number) e) (λ z. omega arith))
 
-  pub moving-accepted : reading xs .number ≡ 0 → Holds (legalBase (length xs) base) → (moving xs base ≡ acceptedMove (reading xs) base) × (movedImage xs base ≡ moveTo xs (reading xs) base)
+  pub moving-accepted : reading xs .number ≡ 0 → Holds (legalBase (length xs) base)
+      → (moving xs base ≡ acceptedMove (reading xs) base) × (movedImage xs base ≡ moveTo xs (reading xs) base)
   unfolding moving movedImage run
   moving-accepted ok h =
-      let e : moving xs base ≡ acceptedMove (reading xs) base = after-accepted refusedMove (reading xs) _ ok ∙ rw (passes (legalBase (length xs) base) h) in
+      let e : moving xs base ≡ acceptedMove (reading xs) base =
+      after-accepted refusedMove (reading xs) _ ok ∙ rw (passes (legalBase (length xs) base) h) in
       (e, changed-so (moving xs base .number) (moveTo xs (reading xs) base) xs (ap (λ (m : Moved). m .number) e))
 
   -- a move that is accepted is one of an image that reads to a legal base

@@ -2,11 +2,11 @@
 use image::Reading;
 ghost use mathlib.Core.Path.{_≡_};
 ghost use Prim.Native.Nat.{_+_, _*_, _^_, _≤_, _<_};
-ghost use lib.IntN.{pos, _-ℤ_, natAbs};
+ghost use lib.IntN.{pos, _-ℤ_};
 ghost use lib.ListN.{length};
 ghost use Rattle.image.specs.Guarantee.{Guaranteed};
 ghost use Rattle.moving.specs.Moves.{difference, moved};
-ghost use Rattle.moving.specs.Moving.{wordsAt, wordsOf, refusedMove, moving, movedImage};
+ghost use Rattle.moving.specs.Moving.{wordsAt, wordsOf, refusedMove, MovesTo, Magnitude};
 
 // The answer of a move: number 0 and the move, new base minus old; or the refusal's number and index.
 pub struct Moved {
@@ -59,7 +59,7 @@ fn distance(old: u64, new: u64) -> i64
 
 // How far a move goes, up or down.
 pub fn magnitude(distance: i64) -> u64
-    ensures { λ r. ⌜ r ≡ natAbs distance ⌝ }
+    ensures { λ r. ⌜ Magnitude distance r ⌝ }
 {
     if distance < 0 {
         return (-1 - distance) as u64 + 1;
@@ -77,8 +77,7 @@ pub fn modular_difference(old: u64, new: u64) -> u32
 
 // Moves an image to a base, whatever both are, or refuses and changes nothing.
 pub fn move_image(image: &mut [u8], base: u64) -> Moved
-    ensures { λ r. ⌜ r ≡ moving (now (image .entry)) base ⌝ }
-    ensures { λ _. ⌜ now (image .exit) ≡ movedImage (now (image .entry)) base ⌝ }
+    ensures { λ r. ⌜ MovesTo (now (image .entry)) base r (now (image .exit)) ⌝ }
 {
     let r = image::read(image);
     if r.number != 0 {

@@ -1,1 +1,4 @@
+pub mod Promises
+pub mod FieldLaws
 pub mod Theorems
+pub mod Small

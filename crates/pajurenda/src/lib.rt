@@ -1,18 +1,10 @@
 // The library as C calls it. Each answer is written in a lent buffer; the header is include/pajurenda.h.
-ghost use mathlib.Core.Path.{_≡_};
-ghost use Prim.Native.Nat.{_/_};
-ghost use lib.ListN.{length};
-ghost use Rattle.image.specs.Reading.{reading};
-ghost use Rattle.moving.specs.Moving.{moving, movedImage};
-ghost use Rattle.sheet.specs.Applying.{applying, appliedImage};
-ghost use Rattle.audit.specs.Audit.{auditing, listedBytes};
-ghost use Rattle.answers.specs.Answers.{ifRoom, result, answered, readFields, moveFields, applyFields, finding, settingFields, auditFields};
+ghost use Rattle.pajurenda.specs.Promises.{ReadCall, MoveCall, ApplyCall, SettingCall, AuditCall};
 
 // Reads an image.
 #[no_mangle]
 pub extern "C" fn pajurenda_read(image: &[u8], answer: &mut [u8]) -> u32
-    ensures { λ r. ⌜ r ≡ result 11 (now (answer .entry)) (reading (now (image .entry)) .number) ⌝ }
-    ensures { λ _. ⌜ now (answer .exit) ≡ answered (now (answer .entry)) (readFields (reading (now (image .entry)))) ⌝ }
+    ensures { λ r. ⌜ ReadCall (now (image .entry)) (now (answer .entry)) r (now (answer .exit)) ⌝ }
 {
     if answer.len() < 88 {
         return 100;
@@ -25,9 +17,7 @@ pub extern "C" fn pajurenda_read(image: &[u8], answer: &mut [u8]) -> u32
 // Moves an image in place.
 #[no_mangle]
 pub extern "C" fn pajurenda_move(image: &mut [u8], base: u64, answer: &mut [u8]) -> u32
-    ensures { λ r. ⌜ r ≡ result 3 (now (answer .entry)) (moving (now (image .entry)) base .number) ⌝ }
-    ensures { λ _. ⌜ now (image .exit) ≡ ifRoom 3 (now (answer .entry)) (movedImage (now (image .entry)) base) (now (image .entry)) ⌝ }
-    ensures { λ _. ⌜ now (answer .exit) ≡ answered (now (answer .entry)) (moveFields (moving (now (image .entry)) base)) ⌝ }
+    ensures { λ r. ⌜ MoveCall (now (image .entry)) base (now (answer .entry)) r (now (image .exit)) (now (answer .exit)) ⌝ }
 {
     if answer.len() < 24 {
         return 100;
@@ -40,9 +30,7 @@ pub extern "C" fn pajurenda_move(image: &mut [u8], base: u64, answer: &mut [u8])
 // Applies a release sheet in place.
 #[no_mangle]
 pub extern "C" fn pajurenda_apply(image: &mut [u8], sheet: &[u8], answer: &mut [u8]) -> u32
-    ensures { λ r. ⌜ r ≡ result 2 (now (answer .entry)) (applying (now (image .entry)) (now (sheet .entry)) .number) ⌝ }
-    ensures { λ _. ⌜ now (image .exit) ≡ ifRoom 2 (now (answer .entry)) (appliedImage (now (image .entry)) (now (sheet .entry))) (now (image .entry)) ⌝ }
-    ensures { λ _. ⌜ now (answer .exit) ≡ answered (now (answer .entry)) (applyFields (applying (now (image .entry)) (now (sheet .entry)))) ⌝ }
+    ensures { λ r. ⌜ ApplyCall (now (image .entry)) (now (sheet .entry)) (now (answer .entry)) r (now (image .exit)) (now (answer .exit)) ⌝ }
 {
     if answer.len() < 16 {
         return 100;
@@ -55,8 +43,7 @@ pub extern "C" fn pajurenda_apply(image: &mut [u8], sheet: &[u8], answer: &mut [
 // Finds one setting.
 #[no_mangle]
 pub extern "C" fn pajurenda_setting(image: &[u8], offset: u64, size: u64, answer: &mut [u8]) -> u32
-    ensures { λ r. ⌜ r ≡ result 3 (now (answer .entry)) (finding (now (image .entry)) offset size .number) ⌝ }
-    ensures { λ _. ⌜ now (answer .exit) ≡ answered (now (answer .entry)) (settingFields (finding (now (image .entry)) offset size)) ⌝ }
+    ensures { λ r. ⌜ SettingCall (now (image .entry)) offset size (now (answer .entry)) r (now (answer .exit)) ⌝ }
 {
     if answer.len() < 24 {
         return 100;
@@ -74,9 +61,7 @@ pub extern "C" fn pajurenda_audit(
     places: &mut [u8],
     answer: &mut [u8],
 ) -> u32
-    ensures { λ r. ⌜ r ≡ result 7 (now (answer .entry)) (auditing (now (vendor .entry)) (now (shipped .entry)) (length (now (places .entry)) / 4) .number) ⌝ }
-    ensures { λ _. ⌜ now (places .exit) ≡ ifRoom 7 (now (answer .entry)) (listedBytes (now (vendor .entry)) (now (shipped .entry)) (now (places .entry))) (now (places .entry)) ⌝ }
-    ensures { λ _. ⌜ now (answer .exit) ≡ answered (now (answer .entry)) (auditFields (auditing (now (vendor .entry)) (now (shipped .entry)) (length (now (places .entry)) / 4))) ⌝ }
+    ensures { λ r. ⌜ AuditCall (now (vendor .entry)) (now (shipped .entry)) (now (places .entry)) (now (answer .entry)) r (now (places .exit)) (now (answer .exit)) ⌝ }
 {
     if answer.len() < 56 {
         return 100;

@@ -5,7 +5,7 @@ use mathlib.Core.List.{List, [], _∷_}
 use lib.ListN.{length, getD}
 use Rattle.facts.specs.Fact.{Fact, _≤?_, _≡?_, _and_}
 
--- 10 CONFIG: z not in 32..65,536, or c < E, or c+z > length
+-- 10 CONFIG: a size of 32 to 65,536 bytes, after the patch table, inside the image
 abbrev pub regionFits : List ℕ → ℕ → ℕ → ℕ → Fact
 regionFits xs E c z = 32 ≤? z and z ≤? 65536 and E ≤? c and c + z ≤? length xs
 
@@ -17,6 +17,6 @@ letters = 84 ∷ 77 ∷ 83 ∷ 73 ∷ []
 abbrev pub letter : ℕ → ℕ
 letter component = getD letters (component - 1) 0
 
--- 11 UPD: bytes c+6, c+7 aren't `_` and the component's letter
+-- 11 UPD: an underscore at 6 in the region, and at 7 the letter of the component
 abbrev pub marksFit : List ℕ → ℕ → ℕ → Fact
 marksFit xs c component = getD xs (c + 6) 0 ≡? 95 and getD xs (c + 7) 0 ≡? letter component

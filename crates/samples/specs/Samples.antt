@@ -1,28 +1,33 @@
--- Document 01, "Sample table": the rows marked (P), proved together as a single table under a single statement about the rules.
+-- Document 01, "Sample table": its rows marked (P) as one table, and one statement of what each row says.
 -- Assumes nothing.
-use Prim.Native.Nat.{ℕ, _+_, _≤_}
+use Prim.Native.Nat.{ℕ, suc, _+_, _-_, _%_, _^_, _≤_, _<_}
 use mathlib.Core.Bool.{Bool, true, false, cond, _&&_}
 use mathlib.Core.List.{List, [], _∷_}
 use mathlib.Core.Path.{_≡_, refl, sym, ap, _∙_}
 use native.Mathlib.Omega.{arith}
-use lib.IntN.{ℤ, pos, natAbs}
+use lib.Dec.{ltb}
+use lib.IntN.{ℤ, pos, negsuc, natAbs}
 use lib.ListN.{length, getD, take}
 use lib.Signed.{ltZ}
 use Rattle.facts.specs.Fact.{Fact, _≤?_, _≡?_, deny, _and_, every, allBelow, test, Holds, holds, passes, fails, agree, says}
 use Rattle.facts.specs.Rules.{run, and-left, and-right}
-use Rattle.words.specs.Le.{le}
-use Rattle.words.specs.Put.{digit, put, add}
+use borrow.Author.Tests.{ltb-true}
+use Rattle.words.specs.Le.{le, Bytes}
+use Rattle.words.specs.Put.{digit}
+use Rattle.words.specs.Number.{number}
 use Rattle.header.specs.Base.{legalBase}
 use Rattle.table.specs.Entry.{placeOf}
 use Rattle.image.specs.declared.Identity.{Identity}
-use Rattle.image.specs.Reading.{refusal, reading}
-use Rattle.image.specs.Frame.{rebased}
+use Rattle.image.specs.Reading.{rebased, refusal, reading}
 use Rattle.image.specs.Guarantee.{guaranteed}
 use Rattle.moving.specs.Moves.{difference}
-use Rattle.moving.specs.Moving.{acceptedMove}
-use Rattle.sheet.specs.Sheet.{sheetIdentity, count, offset, size, bodyAt, contentsFit, bodiesFit, sameIdentity, fieldFits}
+use Rattle.moving.specs.Moving.{wordsAt, acceptedMove, moving, movedImage}
+use Rattle.moving.specs.MovingLaws.{moving-accepted}
+use Rattle.moving.specs.Theorems.{moved-number}
+use Rattle.sheet.specs.Small.{sample}
+use Rattle.sheet.specs.Sheet.{Sound, sheetIdentity, count, offset, size, bodyAt, contentsFit, bodiesFit, sameIdentity, fieldFits}
 use Rattle.sheet.specs.Applying.{applied, sheetRules, applying, appliedImage}
-use Rattle.sheet.specs.ApplyingLaws.{Sound, sound-sheet, applying-judged, applying-accepted, set-in}
+use Rattle.sheet.specs.ApplyingLaws.{sound-sheet, applying-judged, applying-accepted, set-in}
 use Rattle.sheet.specs.declared.Applied.{Applied}
 
 pub data Row : Type 0 where
@@ -34,9 +39,9 @@ pub data Row : Type 0 where
   legal : (size base : ℕ) → Row
   -- a base isn't
   illegal : (size base : ℕ) → Row
-  -- a move from old to new has this difference and goes down by this much
+  -- an image at old that is moved to new moves by this difference, and answers that it goes down by this much
   moves : (old new difference down : ℕ) → Row
-  -- it makes of this word that one
+  -- such a move makes of this word that one
   makes : (old new word moved : ℕ) → Row
   -- for an image of the sheet's identity and revision with at least so many region bytes, the sheet sets two region bytes to these
   sets : (sheet : List ℕ) (z at first second : ℕ) → Row
@@ -51,6 +56,15 @@ distanceOf old new = acceptedMove (rebased (refusal 0 0) old) new .distance
 abbrev sign : ℤ → ℕ
 sign z = cond (ltZ z (pos 0)) 1 0
 
+-- a number whose sign says so is below 0
+below : (z : ℤ) → sign z ≡ 1 → z ≡ negsuc (natAbs z - 1)
+below (pos n) e = absurd (none (ltb n 0) refl e)
+  where
+    none : (b : Bool) → ltb n 0 ≡ b → _≡_ {A = ℕ} (cond b 1 0) 1 → ⊥
+    none true f g = omega (arith, ltb-true n 0 f)
+    none false f g = omega arith
+below (negsuc n) e = let s : n ≡ suc n - 1 = omega arith in ap negsuc s
+
 -- the check by which a row is computed
 abbrev check : Row → Fact
 check (points size entry place) = placeOf size entry .number ≡? 0 and placeOf size entry .at ≡? place
@@ -58,7 +72,7 @@ check (refuses size entry number) = placeOf size entry .number ≡? number and p
 check (legal size base) = legalBase size base
 check (illegal size base) = deny (legalBase size base)
 check (moves old new by down) = difference old new 4 ≡? by and sign (distanceOf old new) ≡? 1 and natAbs (distanceOf old new) ≡? down
-check (makes old new word moved) = le 4 (add 4 (put 4 (0 ∷ 0 ∷ 0 ∷ 0 ∷ []) 0 word) 0 (difference old new 4)) 0 ≡? moved
+check (makes old new word moved) = (word + difference old new 4) % 2 ^ 32 ≡? moved
 check (sets s z at first second) =
     contentsFit s
     and bodiesFit s
@@ -76,8 +90,14 @@ Claim (points size entry place) = Holds (check (points size entry place))
 Claim (refuses size entry number) = Holds (check (refuses size entry number))
 Claim (legal size base) = Holds (check (legal size base))
 Claim (illegal size base) = Holds (check (illegal size base))
-Claim (moves old new by down) = Holds (check (moves old new by down))
-Claim (makes old new word moved) = Holds (check (makes old new word moved))
+Claim (moves old new by down) =
+    (difference old new 4 ≡ by)
+    × ((xs : List ℕ) → reading xs .number ≡ 0 → reading xs .base ≡ old → Holds (legalBase (length xs) new)
+    → moving xs new ≡ record { number = 0; index = 0; distance = negsuc (down - 1) })
+Claim (makes old new word moved) =
+    (xs : List ℕ) → Bytes xs → reading xs .number ≡ 0 → reading xs .base ≡ old → Holds (legalBase (length xs) new)
+    → (j : ℕ) → j < suc (reading xs .n) → le 4 xs (wordsAt xs (reading xs) j) ≡ word
+    → le 4 (movedImage xs new) (wordsAt xs (reading xs) j) ≡ moved
 Claim (sets s z at first second) =
     (xs : List ℕ) → reading xs .number ≡ 0 → Holds (sameIdentity (sheetIdentity s) (reading xs .identity)) → z ≤ reading xs .z
     → (applying xs s ≡ applied 0 0)
@@ -92,10 +112,22 @@ right (points size entry place) h = h
 right (refuses size entry number) h = h
 right (legal size base) h = h
 right (illegal size base) h = h
-right (moves old new by down) h = h
-right (makes old new word moved) h = h
+right (moves old new by down) (by-is, (low, far)) = (
+  by-is,
+  λ xs ok base legal.
+      moving-accepted xs new ok legal .0
+      ∙ ap (λ (b : ℕ). acceptedMove (rebased (refusal 0 0) b) new) base
+      ∙ ap (λ (z : ℤ). record { number = 0; index = 0; distance = z })
+      (below (distanceOf old new) low ∙ ap (λ (k : ℕ). negsuc (k - 1)) far),
+)
+right (makes old new word moved) h = λ xs b ok base legal j n is.
+    moved-number xs b ok new legal j n
+    ∙ ap (λ (v : ℕ). (v + difference (reading xs .base) new 4) % 2 ^ 32) is
+    ∙ ap (λ (o : ℕ). (word + difference o new 4) % 2 ^ 32) base
+    ∙ h
 right (sets s z at first second) (contents, (bodies, (fields, (one, (place, (two, (a, b))))))) = λ xs ok names room.
-    let sound : Sound s (reading xs .z) = record { contents = contents; bodies = bodies; fields = λ i h. (fields i h .0, omega (arith, fields i h .1)) } in
+    let sound : Sound s (reading xs .z) =
+    record { contents = contents; bodies = bodies; fields = λ i h. (fields i h .0, omega (arith, fields i h .1)) } in
     let judged = ap (λ (v : Applied). v .number) (sound-sheet (reading xs .identity) (reading xs .z) s sound names) in
     let after = applying-accepted xs s ok judged in
     let byte = set-in xs (reading xs) s (guaranteed xs ok) sound 0 in (
@@ -165,6 +197,8 @@ rows =
     ∷ legal 524288 0xFFF80000
     ∷ illegal 524288 0xFFF81000
     ∷ illegal 524288 0xFFF80800
+    -- its size alone decides that one; of this the twelve bits alone
+    ∷ illegal 524288 0x00100800
     ∷ moves 0xFFF80000 0x00100000 0x00180000 4293394432
     ∷ makes 0xFFF80000 0x00100000 0xFFF80040 0x00100040
     ∷ makes 0xFFF80000 0x00100000 0xFFFFFFFC 0x0017FFFC
@@ -174,5 +208,10 @@ rows =
 
 -- the sample table
 pub samples : Each rows
-unfolding test allBelow placeOf difference le digit put add bodyAt
+unfolding test allBelow placeOf difference le bodyAt
 samples = all-right rows refl
+
+-- the sheet of the rows is the one that the small image takes
+pub same-sheet : sheet ≡ sample
+unfolding sample number digit
+same-sheet = refl

@@ -19,9 +19,9 @@ use Rattle.image.specs.After.{after-accepted, after-refused, changed-so, kept-s
 use Rattle.image.specs.Guarantee.{Guaranteed, guaranteed}
 use Rattle.moving.specs.Moves.{Words, Beside}
 use Rattle.sheet.specs.declared.Applied.{Applied}
-use Rattle.sheet.specs.PartLaws.{joined, length-joined, joined-low, joined-mid, joined-high}
-use Rattle.sheet.specs.Sheet.{sheetIdentity, count, offset, size, position, bodyAt, endBefore, entryFits, contentsFit, bodiesFit, sameIdentity, fieldFits}
-use Rattle.sheet.specs.Applying.{copied, written, setBy, applied, nameRules, sheetRules, applying, appliedImage}
+use Rattle.sheet.specs.PartLaws.{length-joined, joined-low, joined-mid, joined-high}
+use Rattle.sheet.specs.Sheet.{Sound, sheetIdentity, count, offset, size, position, bodyAt, endBefore, entryFits, contentsFit, bodiesFit, sameIdentity, fieldFits}
+use Rattle.sheet.specs.Applying.{fieldsOf, joined, copied, written, setBy, applied, nameRules, sheetRules, applying, appliedImage}
 
 -- ---- a copy
 
@@ -30,7 +30,8 @@ unfolding copied
 length-copied xs at s from zero = refl
 length-copied xs at s from (suc k) = length-set (copied xs at s from k) (at + k) (getD s (from + k) 0) ∙ length-copied xs at s from k
 
-pub copied-beside : (xs : List ℕ) (at : ℕ) (s : List ℕ) (from k i : ℕ) → (i < at) ⊎ (at + k ≤ i) → getD (copied xs at s from k) i 0 ≡ getD xs i 0
+pub copied-beside : (xs : List ℕ) (at : ℕ) (s : List ℕ) (from k i : ℕ) → (i < at) ⊎ (at + k ≤ i)
+    → getD (copied xs at s from k) i 0 ≡ getD xs i 0
 unfolding copied
 copied-beside xs at s from zero i h = refl
 copied-beside xs at s from (suc k) i h =
@@ -44,22 +45,19 @@ copied-beside xs at s from (suc k) i h =
     less (inl h) = inl h
     less (inr h) = inr (omega arith)
 
-pub copied-in : (xs : List ℕ) (at : ℕ) (s : List ℕ) (from k j : ℕ) → at + k ≤ length xs → j < k → getD (copied xs at s from k) (at + j) 0 ≡ getD s (from + j) 0
+pub copied-in : (xs : List ℕ) (at : ℕ) (s : List ℕ) (from k j : ℕ) → at + k ≤ length xs → j < k
+    → getD (copied xs at s from k) (at + j) 0 ≡ getD s (from + j) 0
 unfolding copied
 copied-in xs at s from zero j fits h = absurd (omega arith)
 copied-in xs at s from (suc k) j fits h =
     elim (decLt j k) [
-      | yes l ↦ getD-set-other (copied xs at s from k) (at + k) (at + j) (getD s (from + k) 0) 0 (omega arith) ∙ copied-in xs at s from k j (omega arith) l
-      | no l ↦ let e : j ≡ k = omega arith in rw e (getD-set-same (copied xs at s from k) (at + k) (getD s (from + k) 0) 0 (rw length-copied (omega arith)))
+      | yes l ↦ getD-set-other (copied xs at s from k) (at + k) (at + j) (getD s (from + k) 0) 0 (omega arith)
+          ∙ copied-in xs at s from k j (omega arith) l
+      | no l ↦ let e : j ≡ k =
+          omega arith in rw e (getD-set-same (copied xs at s from k) (at + k) (getD s (from + k) 0) 0 (rw length-copied (omega arith)))
     ]
 
 -- ---- the bodies of a sheet
-
--- what a sheet that passes 15 and 17 for a region of z bytes has
-pub record Sound (s : List ℕ) (z : ℕ) : Type 0 where
-  pub contents : Holds (contentsFit s)
-  pub bodies : Holds (bodiesFit s)
-  pub fields : Holds (every (count s) (fieldFits s z))
 
 body-mono : (s : List ℕ) (i k : ℕ) → bodyAt s i ≤ bodyAt s (i + k)
 unfolding bodyAt
@@ -76,27 +74,29 @@ module _ (s : List ℕ) (z : ℕ) (sound : Sound s z) where
       omega (arith, up, sound .bodies .1)
 
   -- an entry starts at or past the end of each before it
-  pub ascending : (j i : ℕ) → i < j → j < count s → offset s i + size s i ≤ offset s j
-  ascending zero i l h = absurd (omega arith)
-  ascending (suc j) i l h =
+  pub entries-ascend : (j i : ℕ) → i < j → j < count s → offset s i + size s i ≤ offset s j
+  entries-ascend zero i l h = absurd (omega arith)
+  entries-ascend (suc j) i l h =
       let next : offset s j + size s j ≤ offset s (suc j) = sound .bodies .0 (suc j) h .1 .1 in
       elim (decLt i j) [
-        | yes g ↦ omega (arith, ascending j i g (omega arith), next)
+        | yes g ↦ omega (arith, entries-ascend j i g (omega arith), next)
         | no g ↦ let e : i ≡ j = omega arith in rw e next
       ]
 
--- ---- the settings part, written
+-- ---- the settingsPart part, written
 
 pub length-written : (p s : List ℕ) (n : ℕ) → length (written p s n) ≡ length p
 unfolding written
 length-written p s zero = refl
 length-written p s (suc n) = length-copied (written p s n) (offset s n - 32) s (bodyAt s n) (size s n) ∙ length-written p s n
 
-pub written-beside : (p s : List ℕ) (n k : ℕ) → ((i : ℕ) → i < n → (k < offset s i - 32) ⊎ (offset s i - 32 + size s i ≤ k)) → getD (written p s n) k 0 ≡ getD p k 0
+pub written-beside : (p s : List ℕ) (n k : ℕ) → ((i : ℕ) → i < n → (k < offset s i - 32) ⊎ (offset s i - 32 + size s i ≤ k))
+    → getD (written p s n) k 0 ≡ getD p k 0
 unfolding written
 written-beside p s zero k out = refl
 written-beside p s (suc n) k out =
-    copied-beside (written p s n) (offset s n - 32) s (bodyAt s n) (size s n) k (out n (omega arith)) ∙ written-beside p s n k (λ i h. out i (omega arith))
+    copied-beside (written p s n) (offset s n - 32) s (bodyAt s n) (size s n) k (out n (omega arith)) ∙ written-beside p s n k
+    (λ i h. out i (omega arith))
 
 pub written-in : (p s : List ℕ) (z : ℕ) → Sound s z → length p ≡ z - 32 → (n i j : ℕ) → n ≤ count s → i < n → j < size s i
     → getD (written p s n) (offset s i - 32 + j) 0 ≡ getD s (bodyAt s i + j) 0
@@ -106,43 +106,41 @@ written-in p s z sound long (suc n) i j hn hi hj =
     elim (decLt i n) [
       | yes l ↦
           copied-beside (written p s n) (offset s n - 32) s (bodyAt s n) (size s n) (offset s i - 32 + j)
-          (inl (omega (arith, ascending s z sound n i l (omega arith), sound .fields i (omega arith), sound .fields n (omega arith))))
+          (inl (omega (arith, entries-ascend s z sound n i l (omega arith), sound .fields i (omega arith), sound .fields n (omega arith))))
           ∙ written-in p s z sound long n i j (omega arith) l hj
       | no l ↦
           let e : i ≡ n = omega arith in
-          let fits : offset s n - 32 + size s n ≤ length (written p s n) = rw length-written (omega (arith, sound .fields n (omega arith))) in
+          let fits : offset s n - 32 + size s n ≤ length (written p s n) =
+          rw length-written (omega (arith, sound .fields n (omega arith))) in
           rw e (copied-in (written p s n) (offset s n - 32) s (bodyAt s n) (size s n) j fits (rw e at hj))
     ]
 
 -- ---- the image, set
 
--- the sheet's own bytes in the image
-abbrev pub fieldsOf : Reading → List ℕ → Words
-fieldsOf r s = record { count = count s; at = λ i. r .c + offset s i; width = size s }
-
--- the settings part
-abbrev settings : List ℕ → Reading → List ℕ
-settings xs r = take (r .z - 32) (drop (r .c + 32) xs)
+-- the settingsPart part
+abbrev settingsPart : List ℕ → Reading → List ℕ
+settingsPart xs r = take (r .z - 32) (drop (r .c + 32) xs)
 
 module _ (xs : List ℕ) (r : Reading) (s : List ℕ) (g : Guaranteed xs r) (sound : Sound s (r .z)) where
   room : r .c + 32 + (r .z - 32) ≤ length xs
   room = omega (arith, g)
 
-  part-long : length (settings xs r) ≡ r .z - 32
+  part-long : length (settingsPart xs r) ≡ r .z - 32
   part-long = length-take-le (r .z - 32) (drop (r .c + 32) xs) (rw length-drop (omega (arith, g)))
 
-  new-long : length (written (settings xs r) s (count s)) ≡ r .z - 32
-  new-long = length-written (settings xs r) s (count s) ∙ part-long
+  new-long : length (written (settingsPart xs r) s (count s)) ≡ r .z - 32
+  new-long = length-written (settingsPart xs r) s (count s) ∙ part-long
 
   pub length-set-by : length (setBy xs r s) ≡ length xs
   unfolding setBy
-  length-set-by = length-joined xs (r .c + 32) (r .z - 32) (written (settings xs r) s (count s)) room new-long
+  length-set-by = length-joined xs (r .c + 32) (r .z - 32) (written (settingsPart xs r) s (count s)) room new-long
 
-  -- outside the settings part every byte is kept
+  -- outside the settingsPart part every byte is kept
   pub set-outside : (k : ℕ) → (k < r .c + 32) ⊎ (r .c + r .z ≤ k) → getD (setBy xs r s) k 0 ≡ getD xs k 0
   unfolding setBy
-  set-outside k (inl h) = joined-low xs (r .c + 32) (r .z - 32) (written (settings xs r) s (count s)) room new-long k h
-  set-outside k (inr h) = joined-high xs (r .c + 32) (r .z - 32) (written (settings xs r) s (count s)) room new-long k (omega (arith, g))
+  set-outside k (inl h) = joined-low xs (r .c + 32) (r .z - 32) (written (settingsPart xs r) s (count s)) room new-long k h
+  set-outside k (inr h) = joined-high xs (r .c + 32) (r .z - 32) (written (settingsPart xs r) s (count s)) room new-long k
+      (omega (arith, g))
 
   -- outside the sheet's own entries every byte is kept
   pub set-beside : (k : ℕ) → Beside (fieldsOf r s) (count s) k → getD (setBy xs r s) k 0 ≡ getD xs k 0
@@ -155,8 +153,8 @@ module _ (xs : List ℕ) (r : Reading) (s : List ℕ) (g : Guaranteed xs r) (sou
           | yes l ↦
               let j = k - (r .c + 32) in
               let e : r .c + 32 + j ≡ k = omega arith in
-              rw e at (joined-mid xs (r .c + 32) (r .z - 32) (written (settings xs r) s (count s)) room new-long j (omega arith)
-              ∙ written-beside (settings xs r) s (count s) j (λ i hi. near i (omega arith) (out i hi) (sound .fields i hi))
+              rw e at (joined-mid xs (r .c + 32) (r .z - 32) (written (settingsPart xs r) s (count s)) room new-long j (omega arith)
+              ∙ written-beside (settingsPart xs r) s (count s) j (λ i hi. near i (omega arith) (out i hi) (sound .fields i hi))
               ∙ getD-take (r .z - 32) (drop (r .c + 32) xs) j 0 (omega arith) ∙ getD-drop (r .c + 32) xs j 0)
         ]
       ]
@@ -172,8 +170,9 @@ module _ (xs : List ℕ) (r : Reading) (s : List ℕ) (g : Guaranteed xs r) (sou
   set-in i j hi hj =
       let f = sound .fields i hi in
       let e : r .c + 32 + (offset s i - 32 + j) ≡ r .c + offset s i + j = omega arith in
-      rw e at (joined-mid xs (r .c + 32) (r .z - 32) (written (settings xs r) s (count s)) room new-long (offset s i - 32 + j) (omega arith)
-      ∙ written-in (settings xs r) s (r .z) sound part-long (count s) i j (omega arith) hi hj)
+      rw e at (joined-mid xs (r .c + 32) (r .z - 32) (written (settingsPart xs r) s (count s)) room new-long (offset s i - 32 + j)
+      (omega arith)
+      ∙ written-in (settingsPart xs r) s (r .z) sound part-long (count s) i j (omega arith) hi hj)
 
 -- ---- the answer and the image afterwards, case by case
 
@@ -182,7 +181,8 @@ pub accepted-sheet : (identity : Identity) (z : ℕ) (s : List ℕ) → run appl
     → Sound s z × Holds (sameIdentity (sheetIdentity s) identity) × (run applied (sheetRules identity z s) ≡ applied 0 0)
 unfolding sheetRules nameRules
 accepted-sheet identity z s e =
-    let (contents, (bodies, (names, (fields, is)))) = passed applied (λ (a : Applied). a .number) (λ k i. refl) (sheetRules identity z s) refl e in
+    let (contents, (bodies, (names, (fields, is)))) =
+    passed applied (λ (a : Applied). a .number) (λ k i. refl) (sheetRules identity z s) refl e in
     (record { contents = contents; bodies = bodies; fields = fields }, names, is)
 
 -- and one that is sound and names the image is accepted
@@ -196,10 +196,12 @@ module _ (xs s : List ℕ) where
   abbrev judged : Applied
   judged = run applied (sheetRules (reading xs .identity) (reading xs .z) s)
 
-  pub applying-unread : (reading xs .number ≡ 0 → ⊥) → (applying xs s ≡ applied (reading xs .number) (reading xs .index)) × (appliedImage xs s ≡ xs)
+  pub applying-unread : (reading xs .number ≡ 0 → ⊥)
+      → (applying xs s ≡ applied (reading xs .number) (reading xs .index)) × (appliedImage xs s ≡ xs)
   unfolding applying appliedImage
   applying-unread h =
-      let e : applying xs s ≡ applied (reading xs .number) (reading xs .index) = after-refused applied (reading xs) (sheetRules (reading xs .identity) (reading xs .z) s) h in
+      let e : applying xs s ≡ applied (reading xs .number) (reading xs .index) =
+      after-refused applied (reading xs) (sheetRules (reading xs .identity) (reading xs .z) s) h in
       (e, kept-so (applying xs s .number) (setBy xs (reading xs) s) xs (λ z. h (sym (ap (λ (a : Applied). a .number) e) ∙ z)))
 
   pub applying-judged : reading xs .number ≡ 0 → applying xs s ≡ judged
@@ -211,7 +213,8 @@ module _ (xs s : List ℕ) where
   applying-refused ok h =
       kept-so (applying xs s .number) (setBy xs (reading xs) s) xs (λ z. h (sym (ap (λ (a : Applied). a .number) (applying-judged ok)) ∙ z))
 
-  pub applying-accepted : reading xs .number ≡ 0 → judged .number ≡ 0 → (applying xs s ≡ applied 0 0) × (appliedImage xs s ≡ setBy xs (reading xs) s)
+  pub applying-accepted : reading xs .number ≡ 0 → judged .number ≡ 0
+      → (applying xs s ≡ applied 0 0) × (appliedImage xs s ≡ setBy xs (reading xs) s)
   unfolding appliedImage
   applying-accepted ok h =
       let e : applying xs s ≡ applied 0 0 = applying-judged ok ∙ accepted-sheet (reading xs .identity) (reading xs .z) s h .2 in
@@ -219,7 +222,8 @@ module _ (xs s : List ℕ) where
 
   -- an apply that is accepted is one of a sound sheet to an image that reads and that it names
   pub applying-shows : applying xs s .number ≡ 0
-      → (reading xs .number ≡ 0) × Sound s (reading xs .z) × Holds (sameIdentity (sheetIdentity s) (reading xs .identity)) × (appliedImage xs s ≡ setBy xs (reading xs) s)
+      → (reading xs .number ≡ 0) × Sound s (reading xs .z) × Holds (sameIdentity (sheetIdentity s) (reading xs .identity)) ×
+      (appliedImage xs s ≡ setBy xs (reading xs) s)
   applying-shows e =
       elim (ℕ-discrete (reading xs .number) 0) [
         | no h ↦ absurd (h (sym (ap (λ (a : Applied). a .number) (applying-unread h .0)) ∙ e))

@@ -5,3 +5,4 @@ pub mod ApplyingLaws
 pub mod Setting
 pub mod SettingLaws
 pub mod Theorems
+pub mod Small

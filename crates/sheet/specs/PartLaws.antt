@@ -7,9 +7,7 @@ use native.Mathlib.Omega.{arith}
 use native.Mathlib.Nat.{add-assoc}
 use lib.ListN.{length, getD, take, drop, length-append, length-drop, List·getD-append}
 use lib.Seq.{length-take-le, getD-append-add, getD-take, getD-drop}
-
-abbrev pub joined : List ℕ → ℕ → ℕ → List ℕ → List ℕ
-joined xs from long m = take from xs ++ (m ++ drop long (drop from xs))
+use Rattle.sheet.specs.Applying.{joined}
 
 module _ (xs : List ℕ) (from long : ℕ) (m : List ℕ) (fits : from + long ≤ length xs) (same : length m ≡ long) where
   front : length (take from xs) ≡ from
@@ -32,5 +30,6 @@ module _ (xs : List ℕ) (from long : ℕ) (m : List ℕ) (fits : from + long �
   joined-high k h =
       let j = k - from - long in
       let e : from + (long + j) ≡ k = omega arith in
-      let step : getD (m ++ drop long (drop from xs)) (long + j) 0 ≡ getD (drop long (drop from xs)) j 0 = rw same at (getD-append-add m (drop long (drop from xs)) j 0) in
+      let step : getD (m ++ drop long (drop from xs)) (long + j) 0 ≡ getD (drop long (drop from xs)) j 0 =
+      rw same at (getD-append-add m (drop long (drop from xs)) j 0) in
       rw e at (past (long + j) ∙ step ∙ getD-drop long (drop from xs) j 0 ∙ getD-drop from xs (long + j) 0)

@@ -7,10 +7,9 @@ ghost use lib.ListN.{length};
 ghost use Rattle.facts.specs.Fact.{Holds, Tells, every};
 ghost use Rattle.facts.specs.Rules.{run};
 ghost use Rattle.image.specs.Guarantee.{Guaranteed};
-ghost use Rattle.sheet.specs.Sheet.{sheetIdentity, count, offset, size, position, entryAt, follows, contentsFit, bodiesFit, sameIdentity, inField, fieldFits};
-ghost use Rattle.sheet.specs.Applying.{copied, written, setBy, applied, nameRules, sheetRules, applying, appliedImage};
-ghost use Rattle.sheet.specs.ApplyingLaws.{Sound};
-ghost use Rattle.sheet.specs.Setting.{settingFits, regionPart, settingNumber, settingPart};
+ghost use Rattle.sheet.specs.Sheet.{Sound, sheetIdentity, count, offset, size, position, entryAt, follows, contentsFit, bodiesFit, sameIdentity, inField, fieldFits};
+ghost use Rattle.sheet.specs.Applying.{copied, written, setBy, applied, nameRules, sheetRules, Applies};
+ghost use Rattle.sheet.specs.Setting.{settingFits, FoundIn, HandsBack, NumberOf};
 
 // The answer of an apply: number 0, or the refusal's number and index.
 pub struct Applied {
@@ -227,8 +226,7 @@ fn set_by(image: &mut [u8], r: Reading, sheet: &[u8])
 
 // Applies a sheet to an image, whatever both are, or refuses and changes nothing.
 pub fn apply(image: &mut [u8], sheet: &[u8]) -> Applied
-    ensures { λ r. ⌜ r ≡ applying (now (image .entry)) (now (sheet .entry)) ⌝ }
-    ensures { λ _. ⌜ now (image .exit) ≡ appliedImage (now (image .entry)) (now (sheet .entry)) ⌝ }
+    ensures { λ r. ⌜ Applies (now (image .entry)) (now (sheet .entry)) r (now (image .exit)) ⌝ }
 {
     let r = image::read(image);
     if r.number != 0 {
@@ -264,7 +262,7 @@ fn setting_fits(offset: usize, size: usize, z: usize) -> bool
 
 // The setting's bytes in the region, or the empty part.
 fn in_region(region: &[u8], offset: usize, size: usize) -> &[u8]
-    ensures { λ r. ⌜ now r ≡ regionPart (now (region .entry)) offset size ⌝ }
+    ensures { λ r. ⌜ FoundIn (region .entry) offset size r ⌝ }
 {
     if !setting_fits(offset, size, region.len()) {
         return &region[0..0];
@@ -275,7 +273,7 @@ fn in_region(region: &[u8], offset: usize, size: usize) -> &[u8]
 
 // The part of the image that holds a setting, or the empty part.
 pub fn setting(image: &[u8], offset: u64, size: u64) -> &[u8]
-    ensures { λ r. ⌜ now r ≡ settingPart (now (image .entry)) offset size ⌝ }
+    ensures { λ r. ⌜ HandsBack (image .entry) offset size r ⌝ }
 {
     let r = image::read(image);
     if r.number != 0 {
@@ -288,7 +286,7 @@ pub fn setting(image: &[u8], offset: u64, size: u64) -> &[u8]
 
 // The number that goes with it: 0, the image's refusal, or 17.
 pub fn setting_number(image: &[u8], offset: u64, size: u64) -> u32
-    ensures { λ r. ⌜ r ≡ settingNumber (now (image .entry)) offset size ⌝ }
+    ensures { λ r. ⌜ NumberOf (now (image .entry)) offset size r ⌝ }
 {
     let r = image::read(image);
     if r.number != 0 {

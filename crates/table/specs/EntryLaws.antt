@@ -51,7 +51,8 @@ spot-of size w =
     by-cond (Spot size w) (eqb (w / 2 ^ 31 % 2) 0) _ _
     (λ e.
     by-test (Spot size w) (low + 4 ≤? size) _ _
-    (λ f. record { low = λ a b. refl; back = λ a b. absurd (b (eqb-true (w / 2 ^ 31 % 2) 0 e)) }) (λ f. refused-spot size w 13 (λ z. omega arith)))
+    (λ f. record { low = λ a b. refl; back = λ a b. absurd (b (eqb-true (w / 2 ^ 31 % 2) 0 e)) })
+    (λ f. refused-spot size w 13 (λ z. omega arith)))
     (λ e.
     by-test (Spot size w) (2 ^ 24 - low ≤? size) _ _
     (λ k.

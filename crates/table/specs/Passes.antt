@@ -24,6 +24,6 @@ outside a E c z = E ≤? a and (a + 4 ≤? c or c + z ≤? a)
 abbrev pub apart : ℕ → ℕ → Fact
 apart a b = a + 4 ≤? b or b + 4 ≤? a
 
--- 14 OVERLAP: the patch word has no byte below E, in the configuration region, or in an earlier patch word
+-- 14 OVERLAP: the word lies clear of the tables, the region, and each patch word that the table names before it
 abbrev pub clear : List ℕ → ℕ → ℕ → ℕ → ℕ → ℕ → Fact
 clear xs t E c z i = outside (place xs t i .at) E c z and every i (λ j. apart (place xs t i .at) (place xs t j .at))

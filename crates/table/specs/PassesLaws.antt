@@ -22,7 +22,8 @@ module _ (a b : List ℕ) (t n : ℕ) (long : length a ≡ length b) (same : Ali
   pub place-cong : (i : ℕ) → i < n → place a t i ≡ place b t i
   unfolding place
   place-cong i h =
-      let e : le 4 a (t + 4 * i) ≡ le 4 b (t + 4 * i) = le-cong 4 a b (t + 4 * i) (record { same = λ j k. rw add-assoc (same .same (4 * i + j) (omega arith)) }) in
+      let e : le 4 a (t + 4 * i) ≡ le 4 b (t + 4 * i) =
+      le-cong 4 a b (t + 4 * i) (record { same = λ j k. rw add-assoc (same .same (4 * i + j) (omega arith)) }) in
       cc
 
   pub unrefused-cong : (number : ℕ) → firstFault (unrefused number a t) n ≡ firstFault (unrefused number b t) n

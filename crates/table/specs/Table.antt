@@ -13,12 +13,12 @@ round4 n = (n + 3) / 4 * 4
 abbrev pub extended : List ℕ → ℕ → ℕ → Fact
 extended xs p end = p + 4 ≤? end and le 4 xs p ≡? 0x45505346
 
--- its 32-bit length at p+4 must be at least 24 and end inside the section
+-- its length, at p+4, has room for the extended header's own 24 bytes and doesn't overrun the section
 abbrev pub extendedFits : List ℕ → ℕ → ℕ → Fact
 extendedFits xs p end = let k = le 4 xs (p + 4) in p + 8 ≤? end and 24 ≤? k and p + k ≤? end
 
--- at p: `FSPP`, a 16-bit length (not judged), revision 1 at p+6, and the 32-bit count n at p+8, at most 1,024; entries of 4 bytes
--- follow from p+12
+-- 9 TABLE: the mark `FSPP`, revision 1, no more than 1,024 entries, and all of them before the section's end; the table's own length field,
+-- at p+4, isn't looked at
 abbrev pub patchFits : List ℕ → ℕ → ℕ → Fact
 patchFits xs p end =
     let n = le 4 xs (p + 8) in

@@ -5,7 +5,7 @@ ghost use lib.ListN.{length};
 ghost use Rattle.facts.specs.Fact.{Tells};
 ghost use Rattle.facts.specs.First.{firstFault};
 ghost use Rattle.table.specs.Table.{round4, extended, extendedFits, patchFits};
-ghost use Rattle.table.specs.Entry.{typeFits, refusedPlace, fitted, placeOf};
+ghost use Rattle.table.specs.Entry.{typeFits, refusedPlace, fitted, placeOf, Points};
 ghost use Rattle.table.specs.Passes.{place, unrefused, outside, apart, clear};
 
 // n rounded up to a multiple of 4.
@@ -113,7 +113,7 @@ fn fit(at: usize, size: usize) -> Place
 
 // Where an entry points in an image of `size` bytes; refusals 12 and 13 are said here and nowhere else.
 pub fn point(entry: usize, size: usize) -> Place
-    ensures { λ r. ⌜ r ≡ placeOf size entry ⌝ }
+    ensures { λ r. ⌜ Points entry size r ⌝ }
 {
     if !type_fits(entry) {
         return refused_place(12);
@@ -204,7 +204,7 @@ fn is_apart(a: usize, b: usize) -> bool
     false
 }
 
-// Rule 14, where 12 and 13 are passed: the first of n entries whose word has a byte below E, in the configuration region, or in an earlier patch word, or n.
+// Rule 14, where 12 and 13 are passed: the first of n entries whose word isn't clear, or n.
 pub fn first_overlap(image: &[u8], t: usize, n: usize, c: usize, z: usize) -> usize
     requires { ⌜ (t + 4 * n ≤ length (now image)) × (c + z ≤ length (now image)) × ((i : ℕ) → i < n → place (now image) t i .number ≡ 0) ⌝ }
     ensures { λ r. ⌜ r ≡ firstFault (clear (now (image .entry)) t (t + 4 * n) c z) n ⌝ }

@@ -6,7 +6,7 @@ use lib.ListN.{length, getD}
 use Rattle.facts.specs.Fact.{Fact, _≤?_, _≡?_, _and_, every}
 use Rattle.words.specs.Le.{le}
 
--- 1 LENGTH: image shorter than 72 or longer than 16,777,216 bytes
+-- 1 LENGTH: from 72 bytes to 2^24
 abbrev pub lengthFits : List ℕ → Fact
 lengthFits xs = 72 ≤? length xs and length xs ≤? 16777216
 
@@ -15,8 +15,8 @@ unfoldable pub sumWords : List ℕ → ℕ → ℕ
 sumWords xs zero = 0
 sumWords xs (suc n) = sumWords xs n + le 2 xs (2 * n)
 
--- 2 VOLUME: bytes 40..43 aren't `_FVH`; or not 72 <= h <= V <= length; or h is odd; or the 16-bit words of bytes 0..h-1 don't sum to
--- 0 modulo 65,536
+-- 2 VOLUME: the mark `_FVH` at 40; the header of at least 72 bytes lies in the volume, and the volume in the image; the header has whole
+-- words of 16 bits, and they add up to 0
 abbrev pub volumeFits : List ℕ → ℕ → ℕ → Fact
 volumeFits xs h v =
     le 4 xs 40 ≡? 0x4856465F
@@ -26,7 +26,8 @@ volumeFits xs h v =
     and h % 2 ≡? 0
     and sumWords xs (h / 2) % 65536 ≡? 0
 
--- 2 VOLUME: x is not 0 and not (x >= h, x+20 <= V, e >= 20, x+e <= V), e being the 32-bit number at x+16
+-- 2 VOLUME, where x says that there is an extension: it starts after the header, and its fixed 20 bytes and its whole length lie in the
+-- volume
 abbrev pub extensionFits : List ℕ → ℕ → ℕ → ℕ → Fact
 extensionFits xs h v x = let e = le 4 xs (x + 16) in h ≤? x and x + 20 ≤? v and 20 ≤? e and x + e ≤? v
 
@@ -64,12 +65,12 @@ unfoldable pub sumBytes : List ℕ → ℕ → ℕ → ℕ
 sumBytes xs at zero = 0
 sumBytes xs at (suc n) = sumBytes xs at n + le 1 xs (at + n)
 
--- the header bytes f..f+23, with those at f+17 and f+23 taken as 0: f..f+16 and f+18..f+22
+-- the sum over the 24 bytes of a file's header that leaves out the body's check byte, at 17, and the state, at 23
 unfoldable pub fileSum : List ℕ → ℕ → ℕ
 fileSum xs f = sumBytes xs f 17 + sumBytes xs (f + 18) 5
 
--- 3 FILE: f+24 > V; or the name at f isn't the header file's GUID; or attribute bit 0 at f+19 is set (large file); or the header bytes
--- don't sum to 0 modulo 256; or s, the 24-bit number at f+20, is below 28 or f+s > V
+-- 3 FILE: its header lies in the volume and bears the header file's name; it isn't a large file; its header adds up to 0; it has room for
+-- a section's header and ends in the volume
 abbrev pub fileFits : List ℕ → ℕ → ℕ → Fact
 fileFits xs v f =
     let s = le 3 xs (f + 20) in
@@ -80,6 +81,6 @@ fileFits xs v f =
     and 28 ≤? s
     and f + s ≤? v
 
--- 4 SECTION: the type byte at f+27 isn't 0x19; or the 24-bit size at f+24 is below 76 or above s-24
+-- 4 SECTION: a raw section that has room for the header and ends in the file
 abbrev pub sectionFits : List ℕ → ℕ → ℕ → Fact
 sectionFits xs f s = let size = le 3 xs (f + 24) in le 1 xs (f + 27) ≡? 0x19 and 76 ≤? size and size ≤? s - 24

@@ -36,10 +36,23 @@ module _ (a b : List ℕ) where
   file-looks v f low high =
       let attribute : le 1 a (f + 19) ≡ le 1 b (f + 19) = le-in high 1 (f + 19) (omega arith) (omega arith) in
       let size : le 3 a (f + 20) ≡ le 3 b (f + 20) = le-in high 3 (f + 20) (omega arith) (omega arith) in
-      let sum : sumBytes a f 17 + sumBytes a (f + 18) 5 ≡ sumBytes b f 17 + sumBytes b (f + 18) 5 = rw (sum-bytes f 17 17 (omega arith) low, sum-bytes (f + 18) 5 5 (omega arith) high) in
+      let sum : sumBytes a f 17 + sumBytes a (f + 18) 5 ≡ sumBytes b f 17 + sumBytes b (f + 18) 5 =
+      rw (sum-bytes f 17 17 (omega arith) low, sum-bytes (f + 18) 5 5 (omega arith) high) in
       same-test (fileFits a v f) (fileFits b v f)
-      (λ h. (h .0, ((λ i l. sym (low .same i (omega arith)) ∙ h .1 .0 i l), (rw attribute at (h .1 .1 .0), (rw sum at (h .1 .1 .1 .0), rw size at (h .1 .1 .1 .1))))))
-      (λ h. (h .0, ((λ i l. low .same i (omega arith) ∙ h .1 .0 i l), (rw attribute (h .1 .1 .0), (rw sum (h .1 .1 .1 .0), rw size (h .1 .1 .1 .1))))))
+      (λ h. (
+        h .0,
+        (
+          (λ i l. sym (low .same i (omega arith)) ∙ h .1 .0 i l),
+          (rw attribute at (h .1 .1 .0), (rw sum at (h .1 .1 .1 .0), rw size at (h .1 .1 .1 .1))),
+        ),
+      ))
+      (λ h. (
+        h .0,
+        (
+          (λ i l. low .same i (omega arith) ∙ h .1 .0 i l),
+          (rw attribute (h .1 .1 .0), (rw sum (h .1 .1 .1 .0), rw size (h .1 .1 .1 .1))),
+        ),
+      ))
 
   -- bytes f+24..f+27
   pub section-looks : (f s : ℕ) → Alike a b (f + 24) 4 → test (sectionFits a f s) ≡ test (sectionFits b f s)

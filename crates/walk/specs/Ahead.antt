@@ -70,17 +70,17 @@ All P [] = Unit {0}
 All P (x ∷ l) = P x × All P l
 
 -- x is the place of one of the first j moved words, or the length
-abbrev pub Placed : List ℕ → Reading → ℕ → ℕ → Type 0
-Placed xs r j x = (x ≤ length xs) × (x < length xs → (i : ℕ) × (i < j) × (wordsAt xs r i ≡ x))
+abbrev pub Spotted : List ℕ → Reading → ℕ → ℕ → Type 0
+Spotted xs r j x = (x ≤ length xs) × (x < length xs → (i : ℕ) × (i < j) × (wordsAt xs r i ≡ x))
 
 -- of the first j moved words, q holds the nearest that end past `at`
 pub record Scanned (xs : List ℕ) (r : Reading) (at j : ℕ) (q : Ahead) : Type 0 where
   pub rising : Rising (q .first) (q .second ∷ q .third ∷ q .fourth ∷ q .fifth ∷ q .sixth ∷ [])
-  pub each : All (Placed xs r j) (queue q)
+  pub each : All (Spotted xs r j) (queue q)
   pub past : (i : ℕ) → i < j → at < wordsAt xs r i + 4 → Past (queue q) (wordsAt xs r i)
   pub near : q .first < length xs → at < q .first + 4
 
 -- each moved word that ends past `at` stands in q, or after all of it
 pub record Known (xs : List ℕ) (r : Reading) (at : ℕ) (q : Ahead) : Type 0 where
-  pub each : All (Placed xs r (suc (r .n))) (queue q)
+  pub each : All (Spotted xs r (suc (r .n))) (queue q)
   pub past : (j : ℕ) → j < suc (r .n) → at < wordsAt xs r j + 4 → Past (queue q) (wordsAt xs r j)

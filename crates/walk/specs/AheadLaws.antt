@@ -16,7 +16,7 @@ use Rattle.facts.specs.Rules.{by-cond}
 use Rattle.image.specs.declared.Reading.{Reading}
 use Rattle.moving.specs.Moving.{wordsAt}
 use Rattle.walk.specs.declared.Ahead.{Ahead}
-use Rattle.walk.specs.Ahead.{queue, inserted, pushed, offered, shifted, Past, Rising, All, Placed, Scanned, Known}
+use Rattle.walk.specs.Ahead.{queue, inserted, pushed, offered, shifted, Past, Rising, All, Spotted, Scanned, Known}
 use Rattle.walk.specs.Walk.{Reach}
 
 -- ---- lists
@@ -113,10 +113,12 @@ past-twice (x ∷ l) z p (inr (h, t)) = inr (h, past-twice l z p t)
 -- ---- the scan
 
 module _ (xs : List ℕ) (r : Reading) (at : ℕ) where
-  pub scanned-start : (q : Ahead) → q ≡ record { first = length xs; second = length xs; third = length xs; fourth = length xs; fifth = length xs; sixth = length xs } → Scanned xs r at 0 q
+  pub scanned-start : (q : Ahead)
+      → q ≡ record { first = length xs; second = length xs; third = length xs; fourth = length xs; fifth = length xs; sixth = length xs }
+      → Scanned xs r at 0 q
   unfolding Rising All
   scanned-start q e =
-      let none : Placed xs r 0 (length xs) = (omega arith, λ h. absurd (omega arith)) in
+      let none : Spotted xs r 0 (length xs) = (omega arith, λ h. absurd (omega arith)) in
       rw e
       (record {
         rising = (omega arith, (omega arith, (omega arith, (omega arith, (omega arith, tt)))));
@@ -126,12 +128,12 @@ module _ (xs : List ℕ) (r : Reading) (at : ℕ) where
       })
 
   module _ (j : ℕ) (q : Ahead) (p : ℕ) (is : p ≡ wordsAt xs r j) (fits : p + 4 ≤ length xs) (scanned : Scanned xs r at j q) where
-    more : All (Placed xs r (j + 1)) (queue q)
+    more : All (Spotted xs r (j + 1)) (queue q)
     more =
-        all-so (Placed xs r j) (Placed xs r (j + 1)) (queue q)
+        all-so (Spotted xs r j) (Spotted xs r (j + 1)) (queue q)
         (λ x h. (h .0, λ l. let (i, a, b) = h .1 l in (i, omega arith, b))) (scanned .each)
 
-    here : Placed xs r (j + 1) p
+    here : Spotted xs r (j + 1) p
     here = (omega arith, λ h. (j, omega arith, sym is))
 
     kept : (at < p + 4 → Past (queue q) p) → Scanned xs r at (j + 1) q
@@ -150,12 +152,14 @@ module _ (xs : List ℕ) (r : Reading) (at : ℕ) where
         (λ e. kept (λ h. absurd (omega (arith, leb-true (p + 4) at e))))
         (λ e.
         by-cond (λ (u : Ahead). Scanned xs r at (j + 1) u) (leb (q .sixth) p) q (pushed q p)
-        (λ f. kept (λ h. past-last (q .first) (q .second ∷ q .third ∷ q .fourth ∷ q .fifth ∷ q .sixth ∷ []) p (scanned .rising) (leb-true (q .sixth) p f)))
+        (λ f. kept (λ h. past-last (q .first) (q .second ∷ q .third ∷ q .fourth ∷ q .fifth ∷ q .sixth ∷ []) p (scanned .rising)
+        (leb-true (q .sixth) p f)))
         (λ f.
         record {
           rising = rising-in (q .first) p (q .second ∷ q .third ∷ q .fourth ∷ q .fifth ∷ q .sixth ∷ []) (scanned .rising);
-          each = all-in (Placed xs r (j + 1)) (queue q) p more here;
-          past = below-more _ _ (λ i h l. past-old (queue q) p (wordsAt xs r i) (scanned .past i h l)) (λ l. rw (← is) (past-new (queue q) p));
+          each = all-in (Spotted xs r (j + 1)) (queue q) p more here;
+          past = below-more _ _ (λ i h l. past-old (queue q) p (wordsAt xs r i) (scanned .past i h l))
+              (λ l. rw (← is) (past-new (queue q) p));
           near = λ h.
               elim (sorted (q .first) p .same) [
                 | inl (low, high) ↦ omega (arith, scanned .near (omega arith))

@@ -16,7 +16,7 @@ use Rattle.moving.specs.Moving.{wordsOf}
 use Rattle.moving.specs.MovingLaws.{beside}
 use Rattle.walk.specs.declared.Step.{Step}
 use Rattle.walk.specs.declared.Tally.{Tally}
-use Rattle.walk.specs.Differences.{differences, setting, settings, strays, bits}
+use Rattle.walk.specs.Differences.{differences, setting, settings, strays, bits, countsOf}
 use Rattle.walk.specs.FlipLaws.{flips-most}
 use Rattle.walk.specs.Walk.{Stepped, by}
 use Rattle.walk.specs.declared.Ahead.{Ahead}
@@ -28,7 +28,8 @@ use Rattle.walk.specs.Counting.{countedAt, Standing, Counted, Totals}
 -- no moved word has a byte in the region
 pub region-plain : (xs : List ℕ) (r : Reading) (d k : ℕ) → Guaranteed xs r → Holds (setting r k) → getD (by xs r d) k 0 ≡ getD xs k 0
 region-plain xs r d k g h =
-    moved-beside xs (wordsOf xs r) (λ w. d) (suc (r .n)) k (beside xs r g (suc (r .n)) k (omega arith) (inr (omega (arith, g))) (inr (omega arith, omega arith)))
+    moved-beside xs (wordsOf xs r) (λ w. d) (suc (r .n)) k
+    (beside xs r g (suc (r .n)) k (omega arith) (inr (omega (arith, g))) (inr (omega arith, omega arith)))
 
 module _ (xs ys : List ℕ) (r : Reading) (d : ℕ) (g : Guaranteed xs r) (long : length ys ≡ length xs) (t : Tally) (s : Step)
     (stepped : Stepped (by xs r d) ys (t .at) s) (standing : Standing xs r t) (q : Ahead) (known : Known xs r (t .at) q) where
@@ -119,3 +120,9 @@ module _ (ref ys : List ℕ) (r : Reading) where
       let x : t .strays + strays r [] ≡ strays r (differences ref ys 0 (length ys)) = rw e at (l .strays-left) in
       let b : t .bits + bits ref ys r [] ≡ bits ref ys r (differences ref ys 0 (length ys)) = rw e at (l .bits-left) in
       record { settings-all = omega (arith, s); strays-all = omega (arith, x); bits-all = omega (arith, b) }
+
+-- all counts together
+pub totals-counts : (ref ys : List ℕ) (r : Reading) (t : Tally) → Totals ref ys r t
+    → countsOf ref ys r ≡ record { settings = t .settings; strays = t .strays; bits = t .bits }
+unfolding countsOf
+totals-counts ref ys r t all = rw (all .settings-all, all .strays-all, all .bits-all)

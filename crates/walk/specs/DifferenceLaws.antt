@@ -16,13 +16,15 @@ module _ (ref ys : List ℕ) where
   abbrev pub rest : ℕ → List ℕ
   rest at = differences ref ys at (length ys - at)
 
-  pub over : (k m n : ℕ) → ((i : ℕ) → k ≤ i → i < k + m → Holds (agrees ref ys i)) → differences ref ys k (m + n) ≡ differences ref ys (k + m) n
+  pub over : (k m n : ℕ) → ((i : ℕ) → k ≤ i → i < k + m → Holds (agrees ref ys i))
+      → differences ref ys k (m + n) ≡ differences ref ys (k + m) n
   unfolding differences
   over k zero n same = let e : k + 0 ≡ k = omega arith in let f : 0 + n ≡ n = omega arith in rw (e, f)
   over k (suc m) n same =
       let e : suc m + n ≡ suc (m + n) = omega arith in
       let f : k + suc m ≡ suc k + m = omega arith in
-      rw (e, f, passes (agrees ref ys k) (same k (omega arith) (omega arith))) (over (suc k) m n (λ i h l. same i (omega arith) (omega arith)))
+      rw (e, f, passes (agrees ref ys k) (same k (omega arith) (omega arith)))
+      (over (suc k) m n (λ i h l. same i (omega arith) (omega arith)))
 
   -- a stretch of agreement leaves nothing out
   pub rest-over : (at k : ℕ) → at ≤ k → k ≤ length ys → ((i : ℕ) → at ≤ i → i < k → Holds (agrees ref ys i)) → rest at ≡ rest k
@@ -65,4 +67,5 @@ unfolding differences
 few ref ys k zero = omega arith
 few ref ys k (suc n) =
     let h = few ref ys (suc k) n in
-    by-test (λ (l : List ℕ). length l ≤ suc n) (agrees ref ys k) (differences ref ys (suc k) n) (k ∷ differences ref ys (suc k) n) (λ e. omega arith) (λ e. omega arith)
+    by-test (λ (l : List ℕ). length l ≤ suc n) (agrees ref ys k) (differences ref ys (suc k) n) (k ∷ differences ref ys (suc k) n)
+    (λ e. omega arith) (λ e. omega arith)

@@ -4,9 +4,10 @@ use Prim.Native.Nat.{ℕ, zero, suc, _+_, _/_, _%_, _≤_}
 use mathlib.Core.Bool.{cond}
 use mathlib.Core.List.{List, [], _∷_}
 use lib.Bits.{differ}
-use lib.ListN.{getD}
+use lib.ListN.{length, getD}
 use Rattle.facts.specs.Fact.{Fact, _≤?_, _≡?_, _and_, test}
 use Rattle.image.specs.declared.Reading.{Reading}
+use Rattle.walk.specs.declared.Counts.{Counts}
 
 -- the byte at k is the reference's
 abbrev pub agrees : List ℕ → List ℕ → ℕ → Fact
@@ -18,11 +19,11 @@ differences ref ys k zero = []
 differences ref ys k (suc n) =
     cond (test (agrees ref ys k)) (differences ref ys (suc k) n) (k ∷ differences ref ys (suc k) n)
 
--- "A difference at c+32..c+z-1 is a setting"
+-- a position in the region after its header is a setting's
 abbrev pub setting : Reading → ℕ → Fact
 setting r k = r .c + 32 ≤? k and suc k ≤? r .c + r .z
 
--- "written as its position; any other is a stray, written as position + 16,777,216"
+-- how a difference stands in the list: a setting as its position, and 2^24 is added where it is a stray
 unfoldable pub entry : Reading → ℕ → ℕ
 entry r k = cond (test (setting r k)) k (k + 16777216)
 
@@ -40,7 +41,7 @@ unfoldable pub flips : ℕ → ℕ → ℕ → ℕ
 flips zero x y = 0
 flips (suc j) x y = differ (x % 2) (y % 2) + flips j (x / 2) (y / 2)
 
--- "the number of setting bits that differ"
+-- how many bits of the settings differ
 unfoldable pub bits : List ℕ → List ℕ → Reading → List ℕ → ℕ
 bits ref ys r [] = 0
 bits ref ys r (k ∷ ks) = cond (test (setting r k)) (flips 8 (getD ys k 0) (getD ref k 0)) 0 + bits ref ys r ks
@@ -49,3 +50,9 @@ bits ref ys r (k ∷ ks) = cond (test (setting r k)) (flips 8 (getD ys k 0) (get
 unfoldable pub entries : Reading → List ℕ → List ℕ
 entries r [] = []
 entries r (k ∷ ks) = entry r k ∷ entries r ks
+
+-- all three counts, over all the positions
+unfoldable pub countsOf : List ℕ → List ℕ → Reading → Counts
+countsOf ref ys r =
+    let ks = differences ref ys 0 (length ys) in
+    record { settings = settings r ks; strays = strays r ks; bits = bits ref ys r ks }

@@ -14,14 +14,14 @@ use Rattle.walk.specs.declared.Step.{Step}
 use Rattle.walk.specs.Differences.{agrees}
 
 -- a and b agree from `from` on up to k
-abbrev pub Same : List ℕ → List ℕ → ℕ → ℕ → Type 0
-Same a b from k = (i : ℕ) → from ≤ i → i < k → Holds (agrees a b i)
+abbrev pub SameBytes : List ℕ → List ℕ → ℕ → ℕ → Type 0
+SameBytes a b from k = (i : ℕ) → from ≤ i → i < k → Holds (agrees a b i)
 
 -- k is the first position from `from` on and below `to` at which the two differ, or `to`
 pub record Until (a b : List ℕ) (from to k : ℕ) : Type 0 where
   pub onward : from ≤ k
   pub most : k ≤ to
-  pub clear : Same a b from k
+  pub clear : SameBytes a b from k
   pub found : k < to → Holds (agrees a b k) → ⊥
 
 -- k is the first position from `from` on at which ys isn't w, written at p, or p + 4

@@ -16,14 +16,14 @@ use Rattle.moving.specs.Moves.{movedTo, Beside}
 use Rattle.moving.specs.MovesLaws.{bytes-moved, moved-beside, moved-word}
 use Rattle.moving.specs.Moving.{wordsAt, wordsOf}
 use Rattle.moving.specs.MovingLaws.{spread}
-use Rattle.walk.specs.Walk.{Same, Reach, by}
+use Rattle.walk.specs.Walk.{SameBytes, Reach, by}
 
 -- two stretches of agreement are one
-pub same-join : (a b : List ℕ) (from k to : ℕ) → Same a b from k → Same a b k to → Same a b from to
+pub same-join : (a b : List ℕ) (from k to : ℕ) → SameBytes a b from k → SameBytes a b k to → SameBytes a b from to
 same-join a b from k to s t i h l = elim (decLt i k) [ yes g ↦ s i h g | no g ↦ t i (omega arith) l ]
 
 -- equal words are equal bytes
-pub same-le : (m : ℕ) (a b : List ℕ) (at : ℕ) → Bytes a → Bytes b → le m a at ≡ le m b at → Same a b at (at + m)
+pub same-le : (m : ℕ) (a b : List ℕ) (at : ℕ) → Bytes a → Bytes b → le m a at ≡ le m b at → SameBytes a b at (at + m)
 same-le m a b at ba bb e i h l =
     let same = le-one m a b at ba bb e in
     let s : at + (i - at) ≡ i = omega arith in

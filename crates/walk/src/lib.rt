@@ -9,8 +9,8 @@ ghost use Rattle.image.specs.Guarantee.{Guaranteed};
 ghost use Rattle.moving.specs.Moving.{wordsAt};
 ghost use Rattle.words.specs.Le.{le};
 ghost use Rattle.words.specs.Put.{digit};
-ghost use Rattle.walk.specs.Differences.{setting, entry, flips};
-ghost use Rattle.walk.specs.Walk.{Same, Reach, by, Until, InWord, Stepped};
+ghost use Rattle.walk.specs.Differences.{setting, entry, flips, countsOf};
+ghost use Rattle.walk.specs.Walk.{SameBytes, Reach, by, Until, InWord, Stepped};
 ghost use Rattle.walk.specs.Ahead.{pushed, offered, shifted, Scanned, Known};
 ghost use Rattle.walk.specs.Counting.{countedAt, Standing, Counted, Totals};
 
@@ -39,7 +39,7 @@ fn byte_flips(x: u8, y: u8) -> u32
 // The bits at which the words at k differ.
 fn turned(a: &[u8], b: &[u8], k: usize) -> usize
     requires { ⌜ (k + 8 ≤ length (now a)) × (k + 8 ≤ length (now b)) ⌝ }
-    ensures { λ t. ⌜ (t ≡ 0 → Same (now (a .entry)) (now (b .entry)) k (k + 8)) ⌝ }
+    ensures { λ t. ⌜ (t ≡ 0 → SameBytes (now (a .entry)) (now (b .entry)) k (k + 8)) ⌝ }
 {
     words::le64(a, k) ^ words::le64(b, k)
 }
@@ -47,7 +47,7 @@ fn turned(a: &[u8], b: &[u8], k: usize) -> usize
 // Whether the 32 bytes at k are the same in both.
 fn same_block(a: &[u8], b: &[u8], k: usize) -> bool
     requires { ⌜ (k + 32 ≤ length (now a)) × (k + 32 ≤ length (now b)) ⌝ }
-    ensures { λ t. ⌜ (t ≡ true → Same (now (a .entry)) (now (b .entry)) k (k + 32)) ⌝ }
+    ensures { λ t. ⌜ (t ≡ true → SameBytes (now (a .entry)) (now (b .entry)) k (k + 32)) ⌝ }
 {
     let w = turned(a, b, k);
     let x = turned(a, b, k + 8);
@@ -59,7 +59,7 @@ fn same_block(a: &[u8], b: &[u8], k: usize) -> bool
 // Passes equal bytes from `from` on, 32 at a time; never past `to`, nor past a difference.
 fn skip_blocks(a: &[u8], b: &[u8], from: usize, to: usize) -> usize
     requires { ⌜ (from ≤ to) × (to ≤ length (now a)) × (to ≤ length (now b)) ⌝ }
-    ensures { λ r. ⌜ (from ≤ r) × (r ≤ to) × Same (now (a .entry)) (now (b .entry)) from r ⌝ }
+    ensures { λ r. ⌜ (from ≤ r) × (r ≤ to) × SameBytes (now (a .entry)) (now (b .entry)) from r ⌝ }
 {
     let mut k = from;
     while to - k >= 32 {
@@ -74,7 +74,7 @@ fn skip_blocks(a: &[u8], b: &[u8], from: usize, to: usize) -> usize
 // The same, eight at a time.
 fn skip_words(a: &[u8], b: &[u8], from: usize, to: usize) -> usize
     requires { ⌜ (from ≤ to) × (to ≤ length (now a)) × (to ≤ length (now b)) ⌝ }
-    ensures { λ r. ⌜ (from ≤ r) × (r ≤ to) × Same (now (a .entry)) (now (b .entry)) from r ⌝ }
+    ensures { λ r. ⌜ (from ≤ r) × (r ≤ to) × SameBytes (now (a .entry)) (now (b .entry)) from r ⌝ }
 {
     let mut k = from;
     while to - k >= 8 {
@@ -89,7 +89,7 @@ fn skip_words(a: &[u8], b: &[u8], from: usize, to: usize) -> usize
 // Passes equal bytes, as many as can be passed in such steps.
 fn skip(a: &[u8], b: &[u8], from: usize, to: usize) -> usize
     requires { ⌜ (from ≤ to) × (to ≤ length (now a)) × (to ≤ length (now b)) ⌝ }
-    ensures { λ r. ⌜ (from ≤ r) × (r ≤ to) × Same (now (a .entry)) (now (b .entry)) from r ⌝ }
+    ensures { λ r. ⌜ (from ≤ r) × (r ≤ to) × SameBytes (now (a .entry)) (now (b .entry)) from r ⌝ }
 {
     let k = skip_blocks(a, b, from, to);
     skip_words(a, b, k, to)
@@ -302,26 +302,26 @@ pub struct Tally {
 }
 
 // One difference more, at k.
-fn counted(vendor: &[u8], shipped: &[u8], r: Reading, t: Tally, k: usize, ahead: Ahead) -> Tally
-    requires { ⌜ Guaranteed (now vendor) r × (k < length (now vendor)) × (length (now shipped) ≡ length (now vendor)) × (t .settings + t .strays ≤ k) × (t .bits ≤ 8 * k) ⌝ }
-    ensures { λ u. ⌜ u ≡ countedAt (now (vendor .entry)) (now (shipped .entry)) r t k ahead ⌝ }
+fn counted(vendor: &[u8], shipped: &[u8], r: Reading, past: Tally, k: usize, ahead: Ahead) -> Tally
+    requires { ⌜ Guaranteed (now vendor) r × (k < length (now vendor)) × (length (now shipped) ≡ length (now vendor)) × (past .settings + past .strays ≤ k) × (past .bits ≤ 8 * k) ⌝ }
+    ensures { λ u. ⌜ u ≡ countedAt (now (vendor .entry)) (now (shipped .entry)) r past k ahead ⌝ }
 {
     let flips = byte_flips(shipped[k], vendor[k]) as usize;
     if is_setting(r, k) {
         return Tally {
             at: k + 1,
             ahead,
-            settings: t.settings + 1,
-            strays: t.strays,
-            bits: t.bits + flips,
+            settings: past.settings + 1,
+            strays: past.strays,
+            bits: past.bits + flips,
         };
     }
     Tally {
         at: k + 1,
         ahead,
-        settings: t.settings,
-        strays: t.strays + 1,
-        bits: t.bits,
+        settings: past.settings,
+        strays: past.strays + 1,
+        bits: past.bits,
     }
 }
 
@@ -346,8 +346,8 @@ fn count_step(vendor: &[u8], shipped: &[u8], r: Reading, d: u32, t: Tally) -> Ta
     }
 }
 
-// The whole walk: all counts.
-pub fn count_all(vendor: &[u8], shipped: &[u8], r: Reading, d: u32) -> Tally
+// The whole walk.
+fn walk_all(vendor: &[u8], shipped: &[u8], r: Reading, d: u32) -> Tally
     requires { ⌜ Guaranteed (now vendor) r × (length (now shipped) ≡ length (now vendor)) ⌝ }
     ensures { λ t. ⌜ Totals (by (now (vendor .entry)) r d) (now (shipped .entry)) r t ⌝ }
 {
@@ -362,6 +362,26 @@ pub fn count_all(vendor: &[u8], shipped: &[u8], r: Reading, d: u32) -> Tally
         t = count_step(vendor, shipped, r, d, t);
     }
     t
+}
+
+// What is counted of all differences.
+pub struct Counts {
+    pub settings: usize,
+    pub strays: usize,
+    pub bits: usize,
+}
+
+// All counts.
+pub fn count_all(vendor: &[u8], shipped: &[u8], r: Reading, d: u32) -> Counts
+    requires { ⌜ Guaranteed (now vendor) r × (length (now shipped) ≡ length (now vendor)) ⌝ }
+    ensures { λ t. ⌜ t ≡ countsOf (by (now (vendor .entry)) r d) (now (shipped .entry)) r ⌝ }
+{
+    let t = walk_all(vendor, shipped, r, d);
+    Counts {
+        settings: t.settings,
+        strays: t.strays,
+        bits: t.bits,
+    }
 }
 
 // How a difference at k is written.

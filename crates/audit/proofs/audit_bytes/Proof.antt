@@ -1,4 +1,4 @@
-use Rattle.audit.specs.AuditLaws.{accepted, fits, small, walked, unlisted}
+use Rattle.audit.specs.AuditLaws.{audit-accepted, fits, small, walked, unlisted}
 use Rattle.audit.specs.Audit.{differing, auditing, listedBytes}
 use Rattle.walk.specs.Differences.{differences, entries}
 use Rattle.walk.specs.Walk.{by}
@@ -17,7 +17,7 @@ use borrow.Author.Needs.{needs}
 use Rattle.audit.proofs.audit_bytes.Statement.{statement}
 use Rattle.audit.proofs.audit_bytes.Tie as tie
 
--- past the test the audit is accepted
+-- past the test the audit is audit-accepted
 told : (c : tie.Else1) →
     let a = c .before .before .before .before .before .before .before .args in
     auditing (a .vendor .now) (a .shipped .now) (length (a .places .now) / 4) .number ≡ 0
@@ -62,7 +62,7 @@ modular-difference-requires c κs =
 fill-all-bytes-requires : tie.Need-fill-all-bytes-requires
 fill-all-bytes-requires c κs =
     let a = c .before .before .before .before .before .before .before .before .before .args in
-    let ok = accepted (a .vendor .now) (a .shipped .now) (length (a .places .now) / 4) (told (c .before .before)) in
+    let ok = audit-accepted (a .vendor .now) (a .shipped .now) (length (a .places .now) / 4) (told (c .before .before)) in
     (rw (c .before .before .before .before .before .read .ensures) (guaranteed (a .vendor .now) (ok .read)), ok .paired, rw (all (c .before)) (fits (a .vendor .now) (a .shipped .now) (length (a .places .now) / 4) (told (c .before .before))))
 
 same-length : tie.Need-same-length

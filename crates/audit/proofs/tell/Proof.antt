@@ -1,9 +1,8 @@
 use Rattle.audit.specs.AuditLaws.{by-reference, tally-fits, tally-full}
-use Rattle.walk.specs.Counting.{Totals}
 use Rattle.walk.specs.DifferenceLaws.{counts, few}
 use Rattle.walk.specs.Walk.{by}
 use Rattle.audit.specs.Audit.{shippedBase, reference}
-use Rattle.walk.specs.Differences.{differences}
+use Rattle.walk.specs.Differences.{differences, countsOf}
 use Rattle.moving.specs.Moves.{difference}
 use Rattle.image.specs.Guarantee.{Guaranteed, guaranteed}
 use Rattle.image.specs.Reading.{reading}
@@ -33,16 +32,15 @@ meant c =
 
 totals : (c : tie.After-count-all) →
     let a = c .before .before .before .before .args in
-    Totals (reference (a .vendor .now) (a .shipped .now)) (a .shipped .now) (reading (a .vendor .now)) (c .count-all .result)
+    c .count-all .result ≡ countsOf (reference (a .vendor .now) (a .shipped .now)) (a .shipped .now) (reading (a .vendor .now))
 totals c = rw (c .before .before .before .before .pre .0) at (rw (meant c) at (c .count-all .ensures))
 
 -- as many as there are differences
 many : (c : tie.After-count-all) →
     let a = c .before .before .before .before .args in
     c .count-all .result .settings + c .count-all .result .strays ≡ length (differences (by (a .vendor .now) (a .r) (c .before .modular-difference .result)) (a .shipped .now) 0 (length (a .shipped .now)))
-many c =
-    let t = c .count-all .ensures in
-    rw (t .settings-all, t .strays-all) (counts _ _)
+unfolding countsOf
+many c = rw (c .count-all .ensures) (counts _ _)
 
 few-of : (c : tie.After-count-all) →
     let a = c .before .before .before .before .args in

@@ -1,7 +1,7 @@
 use Rattle.facts.specs.Rules.{run}
 use native.Mathlib.Omega.{arith}
 use Rattle.facts.specs.Fact.{yes, no, granted}
-use Rattle.image.specs.Reading.{fromComponent}
+use Rattle.image.specs.Stages.{fromComponent}
 use borrow.Author.Needs.{needs}
 use Rattle.image.proofs.from_component.Statement.{statement}
 use Rattle.image.proofs.from_component.Tie as tie

@@ -4,7 +4,7 @@ use Rattle.facts.specs.First.{first}
 use native.Mathlib.Omega.{arith}
 use Rattle.facts.specs.Rules.{run}
 use borrow.Author.Tests.{lt-ltb, le-ltb}
-use Rattle.image.specs.Reading.{fromEntries}
+use Rattle.image.specs.Stages.{fromEntries}
 use borrow.Author.Needs.{needs}
 use Rattle.image.proofs.from_entries.Statement.{statement}
 use Rattle.image.proofs.from_entries.Tie as tie

@@ -1,7 +1,7 @@
 use Rattle.facts.specs.Rules.{run}
 use native.Mathlib.Omega.{arith}
 use Rattle.facts.specs.Fact.{yes, no, granted}
-use Rattle.image.specs.Reading.{fromRegion}
+use Rattle.image.specs.Stages.{fromRegion}
 use borrow.Author.Needs.{needs}
 use Rattle.image.proofs.from_region.Statement.{statement}
 use Rattle.image.proofs.from_region.Tie as tie

@@ -1,6 +1,7 @@
 use Rattle.facts.specs.Rules.{run}
 use Rattle.facts.specs.Fact.{yes, no, granted}
-use Rattle.image.specs.Reading.{rules, reading}
+use Rattle.image.specs.Reading.{reading}
+use Rattle.image.specs.Stages.{stages, by-stages}
 use borrow.Author.Needs.{needs}
 use Rattle.image.proofs.read.Statement.{statement}
 use Rattle.image.proofs.read.Tie as tie
@@ -12,15 +13,15 @@ refused-requires : tie.Need-refused-requires
 refused-requires c κs = search needs
 
 returns : tie.Need-returns
-unfolding run rules reading
-returns c = rw (no (c .before .before .length-fits .ensures) (c .before .if1 .taken)) (c .refused .ensures)
+unfolding run stages
+returns c = rw (by-stages, no (c .before .before .length-fits .ensures) (c .before .if1 .taken)) (c .refused .ensures)
 
 from-volume-requires : tie.Need-from-volume-requires
 from-volume-requires c κs = granted (c .before .length-fits .ensures) (c .if1 .left)
 
 returns-2 : tie.Need-returns-2
-unfolding run rules reading
-returns-2 c = rw (yes (c .before .before .length-fits .ensures) (c .before .if1 .left)) (c .from-volume .ensures)
+unfolding run stages
+returns-2 c = rw (by-stages, yes (c .before .before .length-fits .ensures) (c .before .if1 .left)) (c .from-volume .ensures)
 
 pub read-spec : {M : Type 1} → statement M
 read-spec =

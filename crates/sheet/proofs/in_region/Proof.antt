@@ -1,6 +1,6 @@
 use Rattle.facts.specs.Fact.{yes, no, granted}
 use Prim.Native.Nat.{_+_, _-_}
-use mathlib.Core.Path.{_≡_}
+use mathlib.Core.Path.{_≡_, refl}
 use native.Mathlib.Omega.{arith}
 use borrow.Author.Needs.{needs}
 use Rattle.sheet.proofs.in_region.Statement.{statement}
@@ -19,7 +19,7 @@ part-result-end : tie.Need-part-result-end
 part-result-end c = search needs
 
 returns : tie.Need-returns
-returns c = rw (no (c .before .before .setting-fits .ensures) (c .before .if1 .taken))
+returns c = rw (no (c .before .before .setting-fits .ensures) (c .before .if1 .taken)) (refl, (refl, refl))
 
 add-end : tie.Need-add-end
 add-end c = let fits = granted (c .before .setting-fits .ensures) (c .if1 .left) in omega arith
@@ -37,7 +37,7 @@ returns-2 : tie.Need-returns-2
 returns-2 c =
     let a = c .before .before .before .before .args in
     let e : a .offset + a .size - a .offset ≡ a .size = omega arith in
-    rw (yes (c .before .before .setting-fits .ensures) (c .before .if1 .left), e)
+    rw (yes (c .before .before .setting-fits .ensures) (c .before .if1 .left), e) (refl, (refl, refl))
 
 pub in-region-spec : {M : Type 1} → statement M
 in-region-spec =

@@ -1,11 +1,12 @@
-use Rattle.sheet.specs.SettingLaws.{setting-unread, region-part}
-use Rattle.sheet.specs.Setting.{regionPart}
+use Rattle.sheet.specs.SettingLaws.{setting-unread, region-part, unread-place, region-place}
+use Rattle.sheet.specs.Setting.{regionPart, regionPlace}
 use Rattle.image.specs.Guarantee.{Guaranteed, guaranteed}
 use Rattle.image.specs.Reading.{reading}
 use Rattle.image.specs.declared.Reading.{Reading}
 use lib.ListN.{take, drop}
-use Prim.Native.Nat.{_+_, _-_}
-use mathlib.Core.Path.{_≡_, sym, ap, _∙_}
+use Prim.Native.Nat.{ℕ, _+_, _-_}
+use native.Mathlib.Nat.{add-assoc}
+use mathlib.Core.Path.{_≡_, refl, sym, ap, _∙_}
 use native.Mathlib.Omega.{arith}
 use borrow.Author.Needs.{needs}
 use Rattle.sheet.proofs.setting.Statement.{statement}
@@ -34,7 +35,8 @@ part-result-end c = search needs
 returns : tie.Need-returns
 returns c =
     let a = c .before .before .before .before .before .args in
-    rw (setting-unread (a .image .now) (a .offset) (a .size) (rw (c .before .before .before .read .ensures) at (c .before .if1 .taken)) .1)
+    let h = rw (c .before .before .before .read .ensures) at (c .before .if1 .taken) in
+    rw (setting-unread (a .image .now) (a .offset) (a .size) h .1, unread-place (a .image .now) (a .offset) (a .size) h) (refl, (refl, refl))
 
 add-end : tie.Need-add-end
 add-end c = omega (arith, read c)
@@ -58,9 +60,18 @@ returns-2 c =
     let r = c .before .before .before .before .before .read .result in
     let e : r .c + r .z - r .c ≡ r .z = omega arith in
     let ok : reading xs .number ≡ 0 = rw (c .before .before .before .before .before .read .ensures) at (c .before .before .before .if1 .left) in
-    rw e at (c .in-region .ensures)
-    ∙ ap (λ (q : Reading). regionPart (take (q .z) (drop (q .c) xs)) (a .offset) (a .size)) (c .before .before .before .before .before .read .ensures)
-    ∙ region-part xs (a .offset) (a .size) ok
+    let is = c .before .before .before .before .before .read .ensures in (
+      rw e at (c .in-region .ensures .0)
+          ∙ ap (λ (q : Reading). regionPart (take (q .z) (drop (q .c) xs)) (a .offset) (a .size)) is
+          ∙ region-part xs (a .offset) (a .size) ok,
+      (
+        c .in-region .ensures .1 .0,
+        rw e at (c .in-region .ensures .1 .1)
+            ∙ ap (λ (q : Reading). regionPlace (take (q .z) (drop (q .c) xs)) (a .offset) (a .size) + (q .c + a .image .ptr .1)) is
+            ∙ sym (add-assoc (regionPlace (take (reading xs .z) (drop (reading xs .c) xs)) (a .offset) (a .size)) (reading xs .c) (a .image .ptr .1))
+            ∙ ap (λ (v : ℕ). v + a .image .ptr .1) (region-place xs (a .offset) (a .size) ok),
+      ),
+    )
 
 pub setting-spec : {M : Type 1} → statement M
 setting-spec =

@@ -1,5 +1,5 @@
 use Rattle.walk.specs.WalkLaws.{same-join}
-use Rattle.walk.specs.Walk.{Same}
+use Rattle.walk.specs.Walk.{SameBytes}
 use Rattle.walk.proofs.BitLaws.{or-none}
 use borrow.Author.Tests.{eqb-true}
 use Prim.Native.Nat.{_+_}
@@ -43,8 +43,8 @@ returns c =
     let three = or-none (bitOr w x) y (four .0) in
     let two = or-none w x (three .0) in
     let join = same-join (a .a .now) (a .b .now) k in
-    let first : Same (a .a .now) (a .b .now) k (k + 16) = join (k + 8) (k + 16) (c .before .before .before .turned .ensures (two .0)) (λ i h l. c .before .before .turned2 .ensures (two .1) i h (omega arith)) in
-    let second : Same (a .a .now) (a .b .now) k (k + 24) = join (k + 16) (k + 24) first (λ i h l. c .before .turned3 .ensures (three .1) i h (omega arith)) in
+    let first : SameBytes (a .a .now) (a .b .now) k (k + 16) = join (k + 8) (k + 16) (c .before .before .before .turned .ensures (two .0)) (λ i h l. c .before .before .turned2 .ensures (two .1) i h (omega arith)) in
+    let second : SameBytes (a .a .now) (a .b .now) k (k + 24) = join (k + 16) (k + 24) first (λ i h l. c .before .turned3 .ensures (three .1) i h (omega arith)) in
     join (k + 24) (k + 32) second (λ i h l. c .turned4 .ensures (four .1) i h (omega arith))
 
 pub same-block-spec : {M : Type 1} → statement M

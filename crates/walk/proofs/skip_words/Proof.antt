@@ -1,5 +1,5 @@
 use Rattle.walk.specs.WalkLaws.{same-join}
-use Rattle.walk.specs.Walk.{Same}
+use Rattle.walk.specs.Walk.{SameBytes}
 use Prim.Native.Nat.{_+_, _-_, _≤_}
 use native.Mathlib.Omega.{arith}
 use borrow.Author.Needs.{needs}
@@ -7,7 +7,7 @@ use Rattle.walk.proofs.skip_words.Statement.{statement}
 use Rattle.walk.proofs.skip_words.Tie as tie
 
 abbrev Inv-loop : tie.InvT-loop
-Inv-loop a b from to k₀ k = (from ≤ k) × (k ≤ to) × Same a b from k
+Inv-loop a b from to k₀ k = (from ≤ k) × (k ≤ to) × SameBytes a b from k
 
 abbrev μ-loop : tie.MeasureT-loop
 μ-loop a b from to k₀ k = to - k

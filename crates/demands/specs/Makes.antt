@@ -1,0 +1,176 @@
+-- What is explained can be made: one move to the base, and one sheet, turn the vendor image into the shipped file.
+-- Assumes nothing.
+use Prim.Native.Nat.{ℕ, _+_, _-_, _*_, _^_, _≤_, _<_}
+use mathlib.Core.List.{List, []}
+use mathlib.Core.Logic.{_⊎_, inl, inr}
+use mathlib.Core.Path.{_≡_, refl, sym, ap, _∙_}
+use native.Mathlib.Omega.{arith}
+use native.Mathlib.Decide.{decLt}
+use lib.ListN.{length, getD, take, drop, length-drop, List·getD-eq-default}
+use lib.Seq.{ext-getD, getD-take, getD-drop, length-take-le}
+use Rattle.facts.specs.Fact.{Holds}
+use Rattle.words.specs.Le.{le, Bytes}
+use Rattle.words.specs.LeLaws.{le-lt}
+use Rattle.image.specs.declared.Identity.{Identity}
+use Rattle.image.specs.declared.Reading.{Reading}
+use Rattle.image.specs.Reading.{identityAt, rebased, reading}
+use Rattle.image.specs.Guarantee.{Guaranteed, guaranteed}
+use Rattle.moving.specs.declared.Moved.{Moved}
+use Rattle.moving.specs.Moving.{moving, movedImage}
+use Rattle.moving.specs.MovingLaws.{moving-accepted}
+use Rattle.moving.specs.Theorems.{length-after, moved-reads}
+use Rattle.sheet.specs.declared.Applied.{Applied}
+use Rattle.sheet.specs.Sheet.{sheetIdentity, count, offset, size, bodyAt, sameIdentity, Sound}
+use Rattle.sheet.specs.Applying.{setBy, applied, applying, appliedImage}
+use Rattle.sheet.specs.ApplyingLaws.{length-set-by, set-outside, set-in, sound-sheet, applying-accepted}
+use Rattle.sheet.specs.Theorems.{applied-empty}
+use Rattle.demands.specs.Explains.{Explains}
+use Rattle.demands.specs.Sheets.{whole, whole-names, whole-count, whole-byte, whole-offset, whole-size, whole-sound, whole-bytes, bare, bare-names, bare-count, bare-sound, bare-bytes}
+
+-- s, applied to the vendor image moved to this base, makes ys
+pub record Makes (xs ys : List ℕ) (base : ℕ) (s : List ℕ) : Type 0 where
+  pub bytes : Bytes s
+  pub moves : moving xs base .number ≡ 0
+  pub applies : applying (movedImage xs base) s .number ≡ 0
+  pub is : appliedImage (movedImage xs base) s ≡ ys
+
+-- a sound sheet that names the image is accepted
+takes : (ms s : List ℕ) → reading ms .number ≡ 0 → Sound s (reading ms .z) → Holds (sameIdentity (sheetIdentity s) (reading ms .identity))
+    → (applying ms s .number ≡ 0) × (appliedImage ms s ≡ setBy ms (reading ms) s)
+takes ms s ok sound names =
+    let judged = ap (λ (a : Applied). a .number) (sound-sheet (reading ms .identity) (reading ms .z) s sound names) in
+    let law = applying-accepted ms s ok judged in
+    (ap (λ (a : Applied). a .number) (law .0), law .1)
+
+module _ (xs ys : List ℕ) (bx : Bytes xs) (by : Bytes ys) (ok : reading xs .number ≡ 0) (base : ℕ) (e : Explains xs ys base) where
+  abbrev ms : List ℕ
+  ms = movedImage xs base
+
+  reads : reading ms ≡ rebased (reading xs) base
+  reads = moved-reads xs bx ok base (e .legal)
+
+  fine : reading ms .number ≡ 0
+  fine = ap (λ (r : Reading). r .number) reads ∙ ok
+
+  long : length ys ≡ length ms
+  long = e .long ∙ sym (length-after xs bx ok base (e .legal))
+
+  goes : moving xs base .number ≡ 0
+  goes = ap (λ (m : Moved). m .number) (moving-accepted xs base ok (e .legal) .0)
+
+  image : reading xs .identity .image < 256 ^ 8
+  unfolding identityAt
+  image =
+      let i = ap (λ (k : Identity). k .image) (guaranteed xs ok .identity-is) in
+      omega (arith, le-lt 8 xs (reading xs .H + 16) bx)
+
+  revision : reading xs .identity .revision < 256 ^ 4
+  unfolding identityAt
+  revision =
+      let i = ap (λ (k : Identity). k .revision) (guaranteed xs ok .identity-is) in
+      omega (arith, le-lt 4 xs (reading xs .H + 12) bx)
+
+  names-it : (s : List ℕ) → Holds (sameIdentity (sheetIdentity s) (reading xs .identity))
+      → Holds (sameIdentity (sheetIdentity s) (reading ms .identity))
+  names-it s h = rw reads h
+
+  -- the shipped file's own settings part
+  abbrev part : List ℕ
+  part = take (reading xs .z - 32) (drop (reading xs .c + 32) ys)
+
+  part-long : length part ≡ reading xs .z - 32
+  part-long = length-take-le (reading xs .z - 32) (drop (reading xs .c + 32) ys) (rw length-drop (omega (arith, guaranteed xs ok, e .long)))
+
+  part-byte : (j : ℕ) → j < reading xs .z - 32 → getD part j 0 ≡ getD ys (reading xs .c + 32 + j) 0
+  part-byte j h = getD-take (reading xs .z - 32) (drop (reading xs .c + 32) ys) j 0 h ∙ getD-drop (reading xs .c + 32) ys j 0
+
+  part-bytes : Bytes part
+  unfolding Bytes
+  part-bytes k =
+      elim (decLt k (reading xs .z - 32)) [
+        | yes h ↦ rw (part-byte k h) (by (reading xs .c + 32 + k))
+        | no h ↦
+            let past : length part ≤ k = omega (arith, part-long) in
+            rw (List·getD-eq-default part 0 past) (omega arith)
+      ]
+
+  -- ---- settings to set: one entry
+
+  module _ (some : 32 < reading xs .z) where
+    abbrev s : List ℕ
+    s = whole (reading xs .identity) part
+
+    sound : Sound s (reading xs .z)
+    sound = whole-sound (reading xs .identity) part image revision (reading xs .z) some (omega (arith, guaranteed xs ok)) part-long
+
+    taken : (applying ms s .number ≡ 0) × (appliedImage ms s ≡ setBy ms (reading ms) s)
+    taken = takes ms s fine (rw reads sound) (names-it s (whole-names (reading xs .identity) part image revision))
+
+    outside : (k : ℕ) → (k < reading xs .c + 32) ⊎ (reading xs .c + reading xs .z ≤ k) → getD (setBy ms (reading ms) s) k 0 ≡ getD ys k 0
+    outside k out = set-outside ms (reading ms) s (guaranteed ms fine) (rw reads sound) k (rw reads out) ∙ sym (e .same k out)
+
+    inside : (j : ℕ) → j < reading xs .z - 32
+        → getD (setBy ms (reading ms) s) (reading xs .c + 32 + j) 0 ≡ getD ys (reading xs .c + 32 + j) 0
+    unfolding bodyAt
+    inside j h =
+        let n = whole-count (reading xs .identity) part image revision in
+        let at = whole-offset (reading xs .identity) part image revision (reading xs .z) some (omega (arith, guaranteed xs ok)) part-long in
+        let wide = whole-size (reading xs .identity) part image revision (reading xs .z) some (omega (arith, guaranteed xs ok)) part-long in
+        let set : getD (setBy ms (reading ms) s) (reading ms .c + offset s 0 + j) 0 ≡ getD s (bodyAt s 0 + j) 0 =
+        set-in ms (reading ms) s (guaranteed ms fine) (rw reads sound) 0 j (omega arith) (omega arith) in
+        let from : bodyAt s 0 + j ≡ 24 + j = omega arith in
+        let region : reading ms .c ≡ reading xs .c = ap (λ (r : Reading). r .c) reads in
+        let to : reading ms .c + offset s 0 + j ≡ reading xs .c + 32 + j = omega arith in
+        rw to at set ∙ rw from (whole-byte (reading xs .identity) part image revision j) ∙ part-byte j h
+
+    one-sheet : Makes xs ys base s
+    one-sheet =
+        record {
+          bytes = whole-bytes (reading xs .identity) part part-bytes;
+          moves = goes;
+          applies = taken .0;
+          is = taken .1 ∙ ext-getD 0 (setBy ms (reading ms) s) ys
+              (length-set-by ms (reading ms) s (guaranteed ms fine) (rw reads sound) ∙ sym long) (λ k h. byte k);
+        }
+      where
+        byte : (k : ℕ) → getD (setBy ms (reading ms) s) k 0 ≡ getD ys k 0
+        byte k =
+            elim (decLt k (reading xs .c + 32)) [
+              | yes low ↦ outside k (inl low)
+              | no low ↦
+                  elim (decLt k (reading xs .c + reading xs .z)) [
+                    | no high ↦ outside k (inr (omega arith))
+                    | yes high ↦
+                        let j = k - (reading xs .c + 32) in
+                        let at : reading xs .c + 32 + j ≡ k = omega arith in
+                        rw at at (inside j (omega arith))
+                  ]
+            ]
+
+  -- ---- none to set: no entry
+
+  module _ (none : reading xs .z ≤ 32) where
+    abbrev empty : List ℕ
+    empty = bare (reading xs .identity) []
+
+    accepted : (applying ms empty .number ≡ 0) × (appliedImage ms empty ≡ setBy ms (reading ms) empty)
+    accepted =
+        takes ms empty fine (bare-sound (reading xs .identity) [] image revision (reading ms .z))
+        (names-it empty (bare-names (reading xs .identity) [] image revision))
+
+    no-sheet : Makes xs ys base empty
+    no-sheet =
+        record {
+          bytes = bare-bytes (reading xs .identity) [];
+          moves = goes;
+          applies = accepted .0;
+          is = applied-empty ms empty (accepted .0) (bare-count (reading xs .identity) [] image revision) ∙ ext-getD 0 ms ys (sym long)
+              (λ k h. sym (e .same k (either k)));
+        }
+      where
+        either : (k : ℕ) → (k < reading xs .c + 32) ⊎ (reading xs .c + reading xs .z ≤ k)
+        either k = elim (decLt k (reading xs .c + 32)) [ yes h ↦ inl h | no h ↦ inr (omega arith) ]
+
+  -- what is explained can be made
+  pub explains-made : (s : List ℕ) × Makes xs ys base s
+  explains-made = elim (decLt 32 (reading xs .z)) [ yes h ↦ (s h, one-sheet h) | no h ↦ (empty (omega arith), no-sheet (omega arith)) ]

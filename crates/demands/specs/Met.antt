@@ -1,0 +1,79 @@
+-- The demands speak of something: the small image meets their premises, and what they say of it is computed (`Small` in `moving`,
+-- `sheet` and `audit`).
+-- Assumes nothing.
+use Prim.Native.Nat.{ℕ, zero, suc, _+_, _<_}
+use mathlib.Core.Bool.{Bool, true, _&&_}
+use mathlib.Core.List.{List, [], _∷_}
+use mathlib.Core.Path.{_≡_, refl, sym, ap, _∙_}
+use native.Mathlib.Omega.{arith}
+use lib.Dec.{ltb}
+use lib.ListN.{length, getD}
+use borrow.Author.Tests.{ltb-true}
+use Rattle.facts.specs.Fact.{Holds}
+use Rattle.facts.specs.Rules.{and-left, and-right}
+use Rattle.words.specs.Le.{le, Bytes}
+use Rattle.words.specs.Put.{digit}
+use Rattle.words.specs.Number.{number, zeros}
+use Rattle.header.specs.Base.{legalBase}
+use Rattle.image.specs.declared.Reading.{Reading}
+use Rattle.image.specs.Reading.{reading}
+use Rattle.image.specs.Small.{small, settingBytes, small-reads}
+use Rattle.moving.specs.Moving.{moving, movedImage, MovesTo}
+use Rattle.moving.specs.Small.{small-moved, small-move}
+use Rattle.sheet.specs.Applying.{applying, appliedImage}
+use Rattle.sheet.specs.Small.{sample, small-set, small-applied}
+use Rattle.sheet.specs.declared.Applied.{Applied}
+use Rattle.audit.specs.Audit.{shippedBase}
+use Rattle.audit.specs.Small.{shipped}
+
+-- whether each is a byte
+abbrev all-bytes : List ℕ → Bool
+all-bytes [] = true
+all-bytes (x ∷ l) = ltb x 256 && all-bytes l
+
+bytes-so : (l : List ℕ) → all-bytes l ≡ true → Bytes l
+unfolding Bytes
+bytes-so [] e k = omega arith
+bytes-so (x ∷ l) e zero = ltb-true x 256 (and-left (ltb x 256) (all-bytes l) e)
+bytes-so (x ∷ l) e (suc k) = bytes-so l (and-right (ltb x 256) (all-bytes l) e) k
+
+abbrev maker : List ℕ
+maker = small 0xFFF80000 0xFFF80040 (settingBytes 0 1)
+
+pub maker-bytes : Bytes maker
+unfolding small number zeros digit
+maker-bytes = bytes-so maker refl
+
+pub maker-reads : reading maker .number ≡ 0
+maker-reads = ap (λ (r : Reading). r .number) small-reads
+
+-- a base to which it can be moved
+pub maker-legal : Holds (legalBase (length maker) 0x00100000)
+unfolding small number zeros
+maker-legal = (refl, omega arith)
+
+-- the move changes it
+pub maker-moves : movedImage maker 0x00100000 ≡ maker → ⊥
+unfolding small number zeros digit
+maker-moves same =
+    let e : _≡_ {A = ℕ} 0x10 0xF8 = ap (λ (l : List ℕ). getD l 130 0) (sym small-moved ∙ same) in
+    omega arith
+
+-- a sheet that it takes, and that changes it
+pub maker-takes : applying maker sample .number ≡ 0
+maker-takes = ap (λ (a : Applied). a .number) small-applied
+
+pub maker-sets : appliedImage maker sample ≡ maker → ⊥
+unfolding small number zeros digit
+maker-sets same =
+    let e : _≡_ {A = ℕ} 1 0 = ap (λ (l : List ℕ). getD l 228 0) (sym small-set ∙ same) in
+    omega arith
+
+-- a shipped file of its length with a legal base
+pub shipped-long : length shipped ≡ length maker
+unfolding small number zeros
+shipped-long = refl
+
+pub shipped-legal : Holds (legalBase (length maker) (shippedBase maker shipped))
+unfolding small number zeros digit le
+shipped-legal = rw small-reads (refl, omega arith)

@@ -1,0 +1,220 @@
+-- Each field of an answer is a number of 64 bits and each entry of an audit's list one of 32, so a reader of the buffers gets the number
+-- itself.
+-- Assumes nothing.
+use Prim.{Unit, tt}
+use Prim.Native.Nat.{ℕ, zero, suc, _+_, _-_, _*_, _/_, _^_, _≤_, _<_}
+use mathlib.Core.Bool.{Bool, true, false, cond}
+use mathlib.Core.List.{List, [], _∷_}
+use mathlib.Core.Logic.{_⊎_, inl, inr}
+use mathlib.Core.Path.{_≡_, refl, sym, ap, _∙_}
+use native.Mathlib.Omega.{arith}
+use native.Mathlib.Decide.{ℕ-discrete}
+use lib.IntN.{ℤ, pos, negsuc, _-ℤ_}
+use lib.Dec.{ltb, eqb}
+use lib.ListN.{length, getD}
+use Rattle.facts.specs.Fact.{Holds, test}
+use Rattle.facts.specs.Rules.{by-test, by-cond}
+use Rattle.words.specs.Le.{le, Bytes}
+use Rattle.words.specs.LeLaws.{le-lt}
+use Rattle.header.specs.Base.{legalBase}
+use Rattle.image.specs.declared.Identity.{Identity}
+use Rattle.image.specs.declared.Reading.{Reading}
+use Rattle.image.specs.Reading.{identityAt, reading}
+use Rattle.image.specs.Guarantee.{guaranteed}
+use Rattle.image.specs.Numbers.{Numbered, numbered, after-every, index-small, refused-is}
+use Rattle.moving.specs.declared.Moved.{Moved}
+use Rattle.moving.specs.Moving.{refusedMove, moving}
+use Rattle.moving.specs.Theorems.{OwnMove, move-numbered}
+use Rattle.sheet.specs.Applying.{applying}
+use Rattle.sheet.specs.Setting.{settingNumber}
+use Rattle.sheet.specs.SettingLaws.{setting-passed}
+use Rattle.sheet.specs.Theorems.{OwnApply, apply-numbered, OwnLookup, lookup-numbered}
+use Rattle.walk.specs.Differences.{agrees, differences, setting, entry, settings, strays, flips, bits, entries}
+use Rattle.walk.specs.DifferenceLaws.{counts, few}
+use Rattle.walk.specs.FlipLaws.{flips-most}
+use Rattle.audit.specs.declared.Audited.{Audited}
+use Rattle.audit.specs.Audit.{reference, differing, refusedAudit, tally, auditing}
+use Rattle.audit.specs.AuditLaws.{OwnAudit, audit-numbered}
+use Rattle.answers.specs.Answers.{twos, readFields, moveFields, applyFields, finding, settingFields, auditFields}
+use Rattle.answers.specs.AnswerLaws.{found-refused, found-accepted}
+use Rattle.answers.specs.declared.Found.{Found}
+
+-- each is a number of 64 bits
+abbrev pub Small : List ℕ → Type 0
+Small [] = Unit {0}
+Small (x ∷ l) = (x < 2 ^ 64) × Small l
+
+pub small-at : (l : List ℕ) → Small l → (j : ℕ) → getD l j 0 < 2 ^ 64
+small-at [] h j = omega arith
+small-at (x ∷ l) (h, t) zero = h
+small-at (x ∷ l) (h, t) (suc j) = small-at l t j
+
+-- a number of a call, and an index
+number-small : (xs : List ℕ) (own : ℕ → Type 0) (number index : ℕ) → ((k : ℕ) → own k → k ≤ 20) → Numbered xs own number index
+    → number < 2 ^ 64
+number-small xs own number index most h = elim (h .known) [ inl l ↦ omega arith | inr o ↦ omega (arith, most number o) ]
+
+-- ---- a reading
+
+read-refused : (xs : List ℕ) → Bytes xs → (reading xs .number ≡ 0 → ⊥) → Small (readFields (reading xs))
+read-refused xs b h =
+    let small = number-small xs _ _ _ (λ k o. absurd o) (numbered xs) in
+    let at = index-small xs _ _ _ b (numbered xs) in
+    rw (refused-is xs h) (
+      small,
+      (
+        omega arith,
+        (
+          omega arith,
+          (
+            omega arith,
+            (
+              omega arith,
+              (omega arith, (omega arith, (omega arith, (omega arith, (omega arith, (omega arith, tt)))))),
+            ),
+          ),
+        ),
+      ),
+    )
+
+read-accepted : (xs : List ℕ) → Bytes xs → reading xs .number ≡ 0 → Small (readFields (reading xs))
+unfolding identityAt
+read-accepted xs b ok =
+    let g = guaranteed xs ok in
+    let at = index-small xs _ _ _ b (numbered xs) in
+    let image : reading xs .identity .image ≡ le 8 xs (reading xs .H + 16) = ap (λ (i : Identity). i .image) (g .identity-is) in
+    let revision : reading xs .identity .revision ≡ le 4 xs (reading xs .H + 12) = ap (λ (i : Identity). i .revision) (g .identity-is) in (
+      omega arith,
+      (
+        omega arith,
+        (
+          omega (arith, g),
+          (
+            omega (arith, g),
+            (
+              omega (arith, le-lt 8 xs (reading xs .H + 16) b),
+              (
+                omega (arith, le-lt 4 xs (reading xs .H + 12) b),
+                (omega (arith, g .legal), (omega (arith, g), (omega (arith, g), (omega (arith, g), (omega (arith, g), tt))))),
+              ),
+            ),
+          ),
+        ),
+      ),
+    )
+
+pub read-small : (xs : List ℕ) → Bytes xs → Small (readFields (reading xs))
+read-small xs b = elim (ℕ-discrete (reading xs .number) 0) [ yes ok ↦ read-accepted xs b ok | no h ↦ read-refused xs b h ]
+
+-- ---- a move
+
+twos-small : (a b : ℕ) → a < 2 ^ 64 → twos (pos a -ℤ pos b) < 2 ^ 64
+unfolding twos
+twos-small a zero h = omega arith
+twos-small a (suc b) h = go (ltb a (suc b))
+  where
+    go : (t : Bool) → twos (cond t (negsuc (suc b - suc a)) (pos (a - suc b))) < 2 ^ 64
+    go true = omega arith
+    go false = omega arith
+
+pub move-small : (xs : List ℕ) (base : ℕ) → Bytes xs → Small (moveFields (moving xs base))
+unfolding moving twos
+move-small xs base b =
+    let numbers = move-numbered xs base in
+    let far : twos (moving xs base .distance) < 2 ^ 64 =
+    after-every refusedMove (λ (m : Moved). twos (m .distance) < 2 ^ 64) xs _ (λ h. omega arith)
+    (λ ok. ((λ h. omega arith), λ h. twos-small base (reading xs .base) (omega (arith, h)))) in
+    (number-small xs OwnMove _ _ (λ k o. omega arith) numbers, (omega (arith, index-small xs OwnMove _ _ b numbers), (far, tt)))
+
+-- ---- an apply
+
+pub apply-small : (xs s : List ℕ) → Bytes xs → Small (applyFields (applying xs s))
+apply-small xs s b =
+    let numbers = apply-numbered xs s in
+    (number-small xs OwnApply _ _ (λ k o. omega arith) numbers, (omega (arith, index-small xs OwnApply _ _ b numbers), tt))
+
+-- ---- a lookup
+
+pub find-small : (xs : List ℕ) (offset size : ℕ) → Small (settingFields (finding xs offset size))
+find-small xs offset size =
+    elim (ℕ-discrete (settingNumber xs offset size) 0) [
+      | yes e ↦
+          let (ok, fits) = setting-passed xs offset size e in
+          let g = guaranteed xs ok in
+          rw (found-accepted xs offset size e) (small, (omega (arith, g, fits), (omega (arith, g, fits), tt)))
+      | no h ↦ rw (found-refused xs offset size h) (small, (omega arith, (omega arith, tt)))
+    ]
+  where
+    small : settingNumber xs offset size < 2 ^ 64
+    small = number-small xs OwnLookup _ _ (λ k o. omega arith) (lookup-numbered xs offset size)
+
+-- ---- an audit
+
+bits-most : (ref ys : List ℕ) (r : Reading) (ks : List ℕ) → bits ref ys r ks ≤ 8 * length ks
+unfolding bits
+bits-most ref ys r [] = omega arith
+bits-most ref ys r (k ∷ ks) =
+    by-test (λ (m : ℕ). m + bits ref ys r ks ≤ 8 * suc (length ks)) (setting r k) (flips 8 (getD ys k 0) (getD ref k 0)) 0
+    (λ h. omega (arith, bits-most ref ys r ks, flips-most 8 (getD ys k 0) (getD ref k 0))) (λ h. omega (arith, bits-most ref ys r ks))
+
+-- base and counts
+abbrev Counted : Audited → Type 0
+Counted a = (a .base < 2 ^ 64) × (a .settings < 2 ^ 64) × (a .strays < 2 ^ 64) × (a .bits < 2 ^ 64)
+
+counted : (xs ys : List ℕ) (room : ℕ) → Counted (auditing xs ys room)
+unfolding auditing tally differing
+counted xs ys room =
+    after-every refusedAudit Counted xs _ (λ h. (omega arith, omega arith, omega arith, omega arith))
+    (λ ok. (
+      (λ h. (omega arith, omega arith, omega arith, omega arith)),
+      λ pair. (
+        (λ h. (omega arith, omega arith, omega arith, omega arith)),
+        λ legal.
+            let g = guaranteed xs ok in
+            let r = reading xs in
+            let ref = reference xs ys in
+            let ks = differences ref ys 0 (length xs) in
+            let most : length ks ≤ length xs = few ref ys 0 (length xs) in
+            let sum : settings r ks + strays r ks ≡ length ks = counts r ks in (
+              omega (arith, legal),
+              omega (arith, g .length-most),
+              omega (arith, g .length-most),
+              omega
+                  (arith, g .length-most, bits-most ref ys r ks),
+            ),
+      ),
+    ))
+
+pub audit-small : (xs ys : List ℕ) (room : ℕ) → Bytes xs → Small (auditFields (auditing xs ys room))
+audit-small xs ys room b =
+    let numbers = audit-numbered xs ys room in
+    let (base, settings, strays, bits) = counted xs ys room in (
+      number-small xs OwnAudit _ _ (λ k o. omega arith) numbers,
+      (
+        omega (arith, index-small xs OwnAudit _ _ b numbers),
+        (
+          base,
+          (settings, (strays, (bits, (one (auditing xs ys room .explained), tt)))),
+        ),
+      ),
+    )
+  where
+    one : (e : Bool) → cond e 1 0 < 2 ^ 64
+    one true = omega arith
+    one false = omega arith
+
+-- the entries of its list
+pub entries-small : (r : Reading) (ref ys : List ℕ) (k n : ℕ) → k + n ≤ 16777216 → (i : ℕ)
+    → getD (entries r (differences ref ys k n)) i 0 < 2 ^ 32
+unfolding differences entries entry
+entries-small r ref ys k zero h i = omega arith
+entries-small r ref ys k (suc n) h i =
+    let rest = entries-small r ref ys (suc k) n (omega arith) in
+    by-test (λ (l : List ℕ). getD (entries r l) i 0 < 2 ^ 32) (agrees ref ys k) (differences ref ys (suc k) n)
+    (k ∷ differences ref ys (suc k) n)
+    (λ e. rest i) (λ e. first i rest)
+  where
+    first : (j : ℕ) → ((j : ℕ) → getD (entries r (differences ref ys (suc k) n)) j 0 < 2 ^ 32)
+        → getD (entries r (k ∷ differences ref ys (suc k) n)) j 0 < 2 ^ 32
+    first zero rest = by-test (λ (v : ℕ). v < 2 ^ 32) (setting r k) k (k + 16777216) (λ s. omega arith) (λ s. omega arith)
+    first (suc j) rest = rest j

@@ -1,0 +1,36 @@
+-- The promises of the C calls: the result r, each lent buffer afterwards, and A, the answer buffer, as it was and as a is afterwards.
+-- Assumes nothing.
+use Prim.Native.Nat.{ℕ, _/_}
+use mathlib.Core.List.{List}
+use mathlib.Core.Path.{_≡_}
+use lib.ListN.{length}
+use Rattle.image.specs.Reading.{reading}
+use Rattle.moving.specs.Moving.{moving, movedImage}
+use Rattle.sheet.specs.Applying.{applying, appliedImage}
+use Rattle.audit.specs.Audit.{auditing, listedBytes}
+use Rattle.answers.specs.Answers.{ifRoom, result, answered, readFields, moveFields, applyFields, finding, settingFields, auditFields}
+
+-- `pajurenda_read`
+abbrev pub ReadCall : List ℕ → List ℕ → ℕ → List ℕ → Type 0
+ReadCall xs A r a = (r ≡ result 11 A (reading xs .number)) × (a ≡ answered A (readFields (reading xs)))
+
+-- `pajurenda_move`; ys is the image afterwards
+abbrev pub MoveCall : List ℕ → ℕ → List ℕ → ℕ → List ℕ → List ℕ → Type 0
+MoveCall xs base A r ys a =
+    (r ≡ result 3 A (moving xs base .number)) × ((ys ≡ ifRoom 3 A (movedImage xs base) xs) × (a ≡ answered A (moveFields (moving xs base))))
+
+-- `pajurenda_apply`
+abbrev pub ApplyCall : List ℕ → List ℕ → List ℕ → ℕ → List ℕ → List ℕ → Type 0
+ApplyCall xs s A r ys a =
+    (r ≡ result 2 A (applying xs s .number)) × ((ys ≡ ifRoom 2 A (appliedImage xs s) xs) × (a ≡ answered A (applyFields (applying xs s))))
+
+-- `pajurenda_setting`
+abbrev pub SettingCall : List ℕ → ℕ → ℕ → List ℕ → ℕ → List ℕ → Type 0
+SettingCall xs offset size A r a =
+    (r ≡ result 3 A (finding xs offset size .number)) × (a ≡ answered A (settingFields (finding xs offset size)))
+
+-- `pajurenda_audit`; bytes is the list before, l afterwards
+abbrev pub AuditCall : List ℕ → List ℕ → List ℕ → List ℕ → ℕ → List ℕ → List ℕ → Type 0
+AuditCall xs ys bytes A r l a =
+    (r ≡ result 7 A (auditing xs ys (length bytes / 4) .number))
+    × ((l ≡ ifRoom 7 A (listedBytes xs ys bytes) bytes) × (a ≡ answered A (auditFields (auditing xs ys (length bytes / 4)))))

@@ -1,0 +1,66 @@
+-- The answers of the C calls for the small image, byte by byte: each field stands where the header says.
+-- Assumes nothing.
+use Prim.Native.Nat.{ℕ, _+_, _-_, _^_}
+use mathlib.Core.List.{List, _++_}
+use mathlib.Core.Path.{_≡_, refl, ap, _∙_}
+use Rattle.facts.specs.Fact.{test}
+use Rattle.words.specs.Put.{digit, put, putAll}
+use Rattle.words.specs.Number.{number, zeros}
+use Rattle.image.specs.declared.Reading.{Reading}
+use Rattle.image.specs.Reading.{reading}
+use Rattle.image.specs.Small.{small, settingBytes, small-reads}
+use Rattle.moving.specs.declared.Moved.{Moved}
+use Rattle.moving.specs.Moving.{moving}
+use Rattle.moving.specs.Small.{small-move}
+use Rattle.sheet.specs.declared.Applied.{Applied}
+use Rattle.sheet.specs.Applying.{applying}
+use Rattle.sheet.specs.Small.{sample, small-applied, small-found}
+use Rattle.audit.specs.declared.Audited.{Audited}
+use Rattle.audit.specs.Audit.{auditing}
+use Rattle.audit.specs.Small.{shipped, small-audit}
+use Rattle.answers.specs.declared.Found.{Found}
+use Rattle.answers.specs.Answers.{ifRoom, result, answered, twos, readFields, moveFields, applyFields, finding, settingFields, auditFields}
+use Rattle.answers.specs.AnswerLaws.{found-accepted}
+
+abbrev maker : List ℕ
+maker = small 0xFFF80000 0xFFF80040 (settingBytes 0 1)
+
+-- number, index, H, component, identity, revision, base, c, z, n, E
+pub read-answer : answered (zeros 88) (readFields (reading maker))
+    ≡ number 8 0
+    ++ (number 8 0
+    ++ (number 8 100
+    ++ (number 8 1
+    ++ (number 8 0x31302D5441455254
+    ++ (number 8 0x01020304 ++ (number 8 0xFFF80000 ++ (number 8 188 ++ (number 8 48 ++ (number 8 1 ++ number 8 188)))))))))
+unfolding ifRoom test putAll put digit number zeros
+read-answer = ap (λ (r : Reading). answered (zeros 88) (readFields r)) small-reads
+
+-- number, index, how far, in two's complement
+pub move-answer : answered (zeros 24) (moveFields (moving maker 0x00100000)) ≡ number 8 0 ++ (number 8 0 ++ number 8 (2 ^ 64 - 4293394432))
+unfolding ifRoom test putAll put digit number zeros twos
+move-answer = ap (λ (r : Moved). answered (zeros 24) (moveFields r)) small-move
+
+-- number, index
+pub apply-answer : answered (zeros 16) (applyFields (applying maker sample)) ≡ number 8 0 ++ number 8 0
+unfolding ifRoom test putAll put digit number zeros
+apply-answer = ap (λ (r : Applied). answered (zeros 16) (applyFields r)) small-applied
+
+-- number, place, length
+pub setting-answer : answered (zeros 24) (settingFields (finding maker 40 2)) ≡ number 8 0 ++ (number 8 228 ++ number 8 2)
+unfolding ifRoom test putAll put digit number zeros
+setting-answer =
+    ap (λ (r : Found). answered (zeros 24) (settingFields r)) (found-accepted maker 40 2 small-found)
+    ∙ ap (λ (k : ℕ). answered (zeros 24) (settingFields (record { number = k; place = reading maker .c + 40; length = 2 }))) small-found
+    ∙ ap (λ (r : Reading). answered (zeros 24) (settingFields (record { number = 0; place = r .c + 40; length = 2 }))) small-reads
+
+-- number, index, base, settings, strays, bits, explained
+pub audit-answer : answered (zeros 56) (auditFields (auditing maker shipped 3))
+    ≡ number 8 0 ++ (number 8 0 ++ (number 8 0x00100000 ++ (number 8 2 ++ (number 8 1 ++ (number 8 2 ++ number 8 0)))))
+unfolding ifRoom test putAll put digit number zeros
+audit-answer = ap (λ (r : Audited). answered (zeros 56) (auditFields r)) small-audit
+
+-- one byte less, and the result is 100
+pub short-result : (k : ℕ) → result 11 (zeros 87) k ≡ 100
+unfolding ifRoom test zeros
+short-result k = refl
