@@ -12,6 +12,9 @@
  * shorter than the answer, the call returns PAJURENDA_SHORT and nothing at all is written anywhere.
  *
  * A refused call changes no byte of an image and no byte of a list.
+ *
+ * Small inline functions at the end read a field of an answer and a place of the audit's list, and
+ * give each number its name and its rule in a sentence. C99 and later, and C++.
  */
 #ifndef PAJURENDA_H
 #define PAJURENDA_H
@@ -22,6 +25,12 @@
 #ifdef __cplusplus
 extern "C" {
 #endif
+
+/* The version of header and library: the whole, and its three numbers. */
+#define PAJURENDA_VERSION "0.6.0"
+#define PAJURENDA_VERSION_MAJOR 0
+#define PAJURENDA_VERSION_MINOR 6
+#define PAJURENDA_VERSION_PATCH 0
 
 /* The answer's number. A check is made only if all earlier ones passed. */
 enum {
@@ -142,6 +151,141 @@ uint32_t pajurenda_audit(const uint8_t *vendor, size_t vendor_length,
 			 const uint8_t *shipped, size_t shipped_length,
 			 uint8_t *places, size_t places_length,
 			 uint8_t *answer, size_t answer_length);
+
+/* ---- for the caller's ease: nothing below judges an image ---- */
+
+/* A little-endian number of at most eight bytes. */
+static inline uint64_t pajurenda_number(const uint8_t *bytes, size_t width)
+{
+	uint64_t value = 0;
+	for (size_t i = width; i > 0; i--)
+		value = value << 8 | bytes[i - 1];
+	return value;
+}
+
+/* A field of an answer: pajurenda_field(answer, PAJURENDA_READ_BASE). */
+static inline uint64_t pajurenda_field(const uint8_t *answer, size_t field)
+{
+	return pajurenda_number(answer + field, 8);
+}
+
+/* The same of a field with a sign: pajurenda_signed_field(answer, PAJURENDA_MOVE_MOVE). */
+static inline int64_t pajurenda_signed_field(const uint8_t *answer, size_t field)
+{
+	const uint64_t value = pajurenda_field(answer, field);
+	return value >> 63 == 0 ? (int64_t)value : -(int64_t)~value - 1;
+}
+
+/* The eight bytes of the identity in the answer of pajurenda_read. */
+static inline const uint8_t *pajurenda_identity(const uint8_t *answer)
+{
+	return answer + PAJURENDA_READ_IDENTITY;
+}
+
+/* The i-th place of the audit's list, counted from 0, as it stands there. */
+static inline uint32_t pajurenda_place(const uint8_t *places, size_t i)
+{
+	return (uint32_t)pajurenda_number(places + PAJURENDA_PLACE_BYTES * i,
+					  PAJURENDA_PLACE_BYTES);
+}
+
+/* 1 where a place is a stray's, 0 where it is a setting's. */
+static inline int pajurenda_is_stray(uint32_t place)
+{
+	return place >= PAJURENDA_STRAY;
+}
+
+/* The position in the image that a place names. */
+static inline uint32_t pajurenda_position(uint32_t place)
+{
+	return pajurenda_is_stray(place) ? place - PAJURENDA_STRAY : place;
+}
+
+/* The name of an answer's number; "unknown" where it is no answer. */
+static inline const char *pajurenda_name(uint32_t number)
+{
+	switch (number) {
+	case PAJURENDA_ACCEPTED: return "ACCEPTED";
+	case PAJURENDA_LENGTH: return "LENGTH";
+	case PAJURENDA_VOLUME: return "VOLUME";
+	case PAJURENDA_FILE: return "FILE";
+	case PAJURENDA_SECTION: return "SECTION";
+	case PAJURENDA_HEADER: return "HEADER";
+	case PAJURENDA_SIZE: return "SIZE";
+	case PAJURENDA_COMPONENT: return "COMPONENT";
+	case PAJURENDA_BASE: return "BASE";
+	case PAJURENDA_TABLE: return "TABLE";
+	case PAJURENDA_CONFIG: return "CONFIG";
+	case PAJURENDA_UPD: return "UPD";
+	case PAJURENDA_TYPE: return "TYPE";
+	case PAJURENDA_PLACE: return "PLACE";
+	case PAJURENDA_OVERLAP: return "OVERLAP";
+	case PAJURENDA_SHEET: return "SHEET";
+	case PAJURENDA_IDENTITY: return "IDENTITY";
+	case PAJURENDA_FIELD: return "FIELD";
+	case PAJURENDA_NEWBASE: return "NEWBASE";
+	case PAJURENDA_PAIR: return "PAIR";
+	case PAJURENDA_ROOM: return "ROOM";
+	case PAJURENDA_SHORT: return "SHORT";
+	default: return "unknown";
+	}
+}
+
+/* The rules 1 to 14, for pajurenda_sentence; h, V, s, L, E and z are document 01's letters. */
+static inline const char *pajurenda_image_sentence(uint32_t number)
+{
+	switch (number) {
+	case PAJURENDA_LENGTH: return "an image has 72 to 16777216 bytes";
+	case PAJURENDA_VOLUME:
+		return "the volume's header must have the mark _FVH, an even length h from 72 to V, "
+		       "a sum of 0 and any extended header within V, V within the file";
+	case PAJURENDA_FILE:
+		return "the volume's first file must be 912740BE-2284-4734-B971-84B027353F0C, not "
+		       "large, its header's sum 0, its size s 28 or more, and lie within V";
+	case PAJURENDA_SECTION:
+		return "the header file's section must be of type 0x19 and of size 76 to s-24";
+	case PAJURENDA_HEADER:
+		return "the section must start with FSPH, of revision 3 or more and a length L "
+		       "from 72 to 256, with 4+L within the section's size";
+	case PAJURENDA_SIZE: return "the header must give the image's length";
+	case PAJURENDA_COMPONENT: return "the component must be 1 (T), 2 (M), 3 (S) or 4 (I)";
+	case PAJURENDA_BASE:
+		return "the image's own base must be a multiple of 4096, "
+		       "base plus length at most 2^32";
+	case PAJURENDA_TABLE:
+		return "a patch table FSPP, of revision 1 and at most 1024 entries, must follow "
+		       "the header or its FSPE of 24 bytes or more, within the section";
+	case PAJURENDA_CONFIG:
+		return "the region must have 32 to 65536 bytes, from E on and within the image";
+	case PAJURENDA_UPD: return "the region's mark must be _ and the component's letter";
+	case PAJURENDA_TYPE: return "a patch entry's type must be 0 or 15";
+	case PAJURENDA_PLACE: return "a patch word must lie inside the image";
+	default: return "a patch word must be clear of tables, region and earlier words";
+	}
+}
+
+/* The rule behind an answer's number in a sentence; "unknown" where it is no answer. */
+static inline const char *pajurenda_sentence(uint32_t number)
+{
+	if (number >= PAJURENDA_LENGTH && number <= PAJURENDA_OVERLAP)
+		return pajurenda_image_sentence(number);
+	switch (number) {
+	case PAJURENDA_ACCEPTED: return "every rule is kept";
+	case PAJURENDA_SHEET:
+		return "a sheet must have 16 to 65535 bytes: contents (bytes 14 and 15 zero, at most "
+		       "256 entries in order, none empty), then bodies without a gap or a rest";
+	case PAJURENDA_IDENTITY: return "the sheet must be for the image's identity and revision";
+	case PAJURENDA_FIELD:
+		return "a setting must have a byte or more, at offsets 32 to z-1 of the region";
+	case PAJURENDA_NEWBASE:
+		return "the base to move to must be a multiple of 4096, "
+		       "base plus length at most 2^32";
+	case PAJURENDA_PAIR: return "the two images must be equally long";
+	case PAJURENDA_ROOM: return "the list must have a place for each difference";
+	case PAJURENDA_SHORT: return "the answer buffer must have room for the answer";
+	default: return "unknown";
+	}
+}
 
 #ifdef __cplusplus
 }

@@ -1,0 +1,108 @@
+# shellcheck shell=sh disable=SC2034,SC2154,SC2162,SC2164
+# Any bytes: images and sheets that are right but for some bytes from a seed, cut short, or nothing but random bytes. Whatever the answer,
+# the exit status, the number and the line on standard error go together.
+
+# well_told FILE: a refusal of that file in its form, or no word on standard error
+well_told() {
+	[ "$got" -le 2 ] || fail "exit status $got"
+	if [ "$got" -lt 2 ]; then
+		says
+		return
+	fi
+	number=$(sed -n 's/^refused \([0-9]*\)$/\1/p' "$work/out")
+	[ -n "$number" ] || fail "exit status 2 without a refusal"
+	prints "refused $number"
+	[ "$(wc -l <"$work/err")" -eq 1 ] || fail "not one line on standard error"
+	case $(cat "$work/err") in
+	"$1: refused $number $(name_of "$number"): "*[0-9a-z]*) passed ;;
+	*) fail "another form on standard error" ;;
+	esac
+}
+
+# answer FILE WORDS..: one run that is well told of that file
+answer() {
+	file=$1
+	shift
+	what=$*
+	got=0
+	run "$@" </dev/null >"$work/out" 2>"$work/err" || got=$?
+	well_told "$file"
+}
+
+# changed FROM TO POSITION VALUE..: a copy with these bytes, in decimal
+changed() {
+	cp "$1" "$2"
+	into=$2
+	shift 2
+	while [ $# -gt 1 ]; do
+		poke "$into" "$1" "\\$(printf %o "$2")"
+		shift 2
+	done
+}
+
+# one to three bytes of the headers and tables that no sum guards, or of the region's header; values at their edges or anything
+draw='function value() { return rand() < 0.5 ? int(rand() * 256) : substr("000001015127128255", 3 * int(rand() * 6) + 1, 3) + 0 }
+BEGIN { srand(seed)
+	for (n = 0; n < count; n++) {
+		line = ""
+		for (m = int(rand() * 3); m >= 0; m--) line = line " " (rand() < 0.9 ? low + int(rand() * (high - low)) : other) " " value()
+		print line } }'
+
+try_changed() {
+	awk -v seed="$seed" -v count=120 -v low=96 -v high=200 -v other=4102 "$draw" >"$work/drawn"
+	numbers=
+	while read -r bytes; do
+		# shellcheck disable=SC2086
+		changed "$vendor" "$i/any" $bytes
+		answer "$i/any" read --words "$i/any"
+		numbers="$numbers $(head -n 1 "$work/out" | tr ' ' '_')"
+	done <"$work/drawn"
+	kinds=$(echo "$numbers" | tr ' ' '\n' | grep '^refused' | sort -u | wc -l)
+	[ "$kinds" -ge 6 ] || fail "only $kinds kinds of refusal among the changed images"
+}
+
+try_changed_sheets() {
+	awk -v seed="$seed" -v count=40 -v low=0 -v high=24 -v other=12 "$draw" >"$work/drawn"
+	cp "$work/old" "$o/out"
+	while read -r bytes; do
+		# shellcheck disable=SC2086
+		changed "$work/sheet" "$i/any" $bytes
+		answer "$i/any" apply "$vendor" "$i/any" "$o/any"
+	done <"$work/drawn"
+}
+
+# cut at each place where something starts or ends, and files of random bytes
+try_cut() {
+	for length in 72 73 95 96 97 99 100 101 127 128 131 132 171 172 184 199 200 201 4095 4096 4102 4496 8188 8191; do
+		head -c "$length" "$vendor" >"$i/any"
+		answer "$i/any" read "$i/any"
+		poke "$i/any" 32 "\\$(printf %o $((length % 256)))\\$(printf %o $((length / 256)))"
+		answer "$i/any" read "$i/any"
+	done
+	for length in 0 1 16 71 72 100 1000 100000; do
+		head -c "$length" /dev/urandom >"$i/any"
+		answer "$i/any" read "$i/any"
+		answer "$i/any" apply "$vendor" "$i/any" "$o/any"
+	done
+}
+
+# random bytes over a shipped file: the ranges are the list
+try_any_ranges() {
+	for turn in 1 2 3 4 5 6; do
+		awk -v seed="$((seed + turn))" -v count=12 -v low=4080 -v high=4520 -v other=100 "$draw" | tr '\n' ' ' >"$work/drawn"
+		# shellcheck disable=SC2046
+		changed "$shipped" "$i/any" $(cat "$work/drawn")
+		got=0
+		run audit --ranges "$vendor" "$i/any" >"$work/out" 2>"$work/err" || got=$?
+		[ "$got" -le 1 ] || fail "exit status $got"
+		sed '1,4d; $d' "$work/out" >"$work/any_ranges"
+		set --
+		while read -r range; do set -- "$@" "$range"; done <"$work/any_ranges"
+		ranges_are "$vendor" "$i/any" "$got" "$@"
+	done
+}
+
+try_changed
+try_changed_sheets
+try_cut
+try_any_ranges

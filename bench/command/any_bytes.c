@@ -1,0 +1,90 @@
+/*
+ * The words of every refusal on any bytes: any_bytes IMAGE SEED TURNS. What is shown beside a number must never be read outside the
+ * file, whatever stands in it and whatever the number; the buffers are as long as the bytes, so that the address checks see it.
+ */
+#include <inttypes.h>
+#include <stdio.h>
+#include <stdlib.h>
+#include <string.h>
+
+#include "pajurenda.h"
+#include "refusals.h"
+
+static uint64_t state;
+
+/* A number below a bound, from the seed. */
+static uint64_t below(uint64_t bound)
+{
+	state ^= state >> 12;
+	state ^= state << 25;
+	state ^= state >> 27;
+	return (state * UINT64_C(2685821657736338717) >> 16) % bound;
+}
+
+/* A byte at an edge, or any. */
+static uint8_t draw_byte(void)
+{
+	static const uint8_t edges[] = { 0, 1, 127, 128, 254, 255 };
+	return below(2) == 0 ? edges[below(sizeof edges)] : (uint8_t)below(256);
+}
+
+/* The image cut somewhere and changed here and there, or random bytes of any small length. */
+static struct bytes draw(const struct bytes *image)
+{
+	const int random = below(3) == 0;
+	struct bytes bytes = { .length = random ? below(300) : below(below(2) == 0 ? 300 : image->length) };
+	bytes.at = malloc(bytes.length == 0 ? 1 : bytes.length);
+	if (bytes.at == NULL)
+		exit(2);
+	for (size_t i = 0; i < bytes.length; i++)
+		bytes.at[i] = random ? draw_byte() : image->at[i];
+	for (uint64_t i = below(8); i > 0 && bytes.length > 0; i--)
+		bytes.at[below(bytes.length < 210 ? bytes.length : 210)] = draw_byte();
+	return bytes;
+}
+
+/* Every refusal, whether or not it is this file's. */
+static void refuse_all(const struct named *file, const struct named *other)
+{
+	uint8_t reading[PAJURENDA_READ_BYTES] = { 0 };
+	const struct asked asked = { below(5), below(UINT64_MAX), below(500) };
+	for (uint32_t number = 1; number <= 14; number++)
+		refuse_image(number, number < 12 ? 0 : below(below(2) == 0 ? 5 : 1024), file);
+	refuse_sheet(file);
+	refuse_identity(file, other, reading);
+	refuse_entry(file, &asked, below(65537));
+	refuse_setting(file, &asked, below(65537));
+	refuse_new_base(file, below(UINT64_MAX));
+	refuse_shipped_base(file, below(below(2) == 0 ? 300 : UINT64_MAX));
+	refuse_pair(file, other);
+}
+
+/* A whole small file. */
+static struct bytes load_image(const char *name)
+{
+	struct bytes image = { .at = malloc(65536) };
+	FILE *from = fopen(name, "rb");
+	if (from == NULL || image.at == NULL)
+		exit(2);
+	image.length = fread(image.at, 1, 65536, from);
+	fclose(from);
+	return image;
+}
+
+int main(int count, char **word)
+{
+	static char room[65536];
+	if (count != 4 || freopen("/dev/null", "w", stderr) == NULL || freopen("/dev/null", "w", stdout) == NULL)
+		return 2;
+	setvbuf(stderr, room, _IOFBF, sizeof room);
+	const struct bytes image = load_image(word[1]);
+	state = strtoull(word[2], NULL, 10) + 88172645463325252u;
+	for (unsigned long turn = strtoul(word[3], NULL, 10); turn > 0; turn--) {
+		struct named file = { "file", draw(&image) }, other = { "other", draw(&image) };
+		refuse_all(&file, &other);
+		free(file.bytes.at);
+		free(other.bytes.at);
+	}
+	free(image.at);
+	return 0;
+}

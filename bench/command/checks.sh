@@ -1,0 +1,156 @@
+# shellcheck shell=sh disable=SC2034,SC2154,SC2162,SC2164
+# One run of the command, and what it must have done.
+
+fail() {
+	echo "try-command: pajurenda $what: $*" >&2
+	sed 's/^/  out: /' "$work/out" 2>/dev/null | head -n 12 >&2 || :
+	sed 's/^/  err: /' "$work/err" 2>/dev/null | head -n 12 >&2 || :
+	exit 1
+}
+
+# run WORDS..: the command, where there is a limit under it; what looks at the outcome isn't
+run() {
+	if [ -n "$limit" ]; then
+		(ulimit -f "$limit" && exec ${emulator:+"$emulator"} "$command" "$@")
+	else
+		${emulator:+"$emulator"} "$command" "$@"
+	fi
+}
+
+# try STATUS WORDS..: one run with that exit status; what it printed is in out and err
+try() {
+	wanted=$1
+	shift
+	what=$*
+	got=0
+	run "$@" </dev/null >"$work/out" 2>"$work/err" || got=$?
+	status_was "$wanted"
+}
+
+status_was() {
+	[ "$got" -eq "$1" ] || fail "exit status $got, not $1"
+	passed
+}
+
+passed() { checks=$((checks + 1)); }
+
+# same FILE FILE: byte for byte
+same() {
+	cmp -s "$1" "$2" || fail "$1 is not as wanted: $(cmp "$1" "$2" 2>&1 || :)"
+	passed
+}
+
+# lines LINE..: into the file of what is wanted
+lines() {
+	: >"$work/wanted"
+	for line in "$@"; do printf '%s\n' "$line" >>"$work/wanted"; done
+}
+
+# prints LINE..: standard output was these lines and no more
+prints() {
+	lines "$@"
+	same "$work/out" "$work/wanted"
+}
+
+# says LINE..: standard error was these lines and no more
+says() {
+	lines "$@"
+	same "$work/err" "$work/wanted"
+}
+
+# tells TEXT: standard error has it
+tells() {
+	grep -qF -e "$1" "$work/err" || fail "standard error does not say: $1"
+	passed
+}
+
+# works STATUS WORDS..: that exit status, with nothing on standard error
+works() {
+	try "$@"
+	says
+}
+
+# the names by their numbers
+name_of() {
+	set -- "$1" LENGTH VOLUME FILE SECTION HEADER SIZE COMPONENT BASE TABLE CONFIG UPD TYPE PLACE OVERLAP SHEET IDENTITY FIELD \
+		NEWBASE PAIR ROOM
+	shift "$1"
+	echo "$1"
+}
+
+# refuses N FILE TEXT WORDS..: `refused N` on standard output, the file with its refusal and that text on standard error
+refuses() {
+	number=$1
+	text="$2: refused $1 $(name_of "$1"): $3"
+	shift 3
+	try 2 "$@"
+	prints "refused $number"
+	says "$text"
+}
+
+# values N FILE TEXT WORDS..: the same where the text goes after the rule's sentence
+values() {
+	number=$1
+	start="$2: refused $1 $(name_of "$1"): "
+	end=": $3"
+	shift 3
+	try 2 "$@"
+	prints "refused $number"
+	line=$(cat "$work/err")
+	case $line in
+	"$start"*"$end") passed ;;
+	*) fail "standard error is not $start...$end" ;;
+	esac
+	[ "$(wc -l <"$work/err")" -eq 1 ] || fail "more than one line on standard error"
+}
+
+# errs REASON WORDS..: an error, told; nothing on standard output
+errs() {
+	reason=$1
+	shift
+	try 2 "$@"
+	prints
+	tells "$reason"
+}
+
+# fails_with LINE WORDS..: the same, and the line is all that is told
+fails_with() {
+	line=$1
+	shift
+	try 2 "$@"
+	prints
+	says "$line"
+}
+
+# picture FOLDER: every name and every byte in it
+picture() { (cd "$1" && find . | sort && find . -type f -exec cksum {} + | sort); }
+
+# keeps FOLDER CHECK..: after the check every name and byte in the folder is as before
+keeps() {
+	folder=$1
+	shift
+	picture "$folder" >"$work/before"
+	"$@"
+	picture "$folder" >"$work/after"
+	same "$work/after" "$work/before"
+}
+
+# poke FILE POSITION OCTAL: bytes put into a file
+poke() {
+	# shellcheck disable=SC2059
+	printf "$3" | dd of="$1" bs=1 seek="$2" conv=notrunc 2>/dev/null
+}
+
+# poked FROM FILE POSITION OCTAL..: a copy with bytes put into it
+poked() {
+	cp "$1" "$2"
+	file=$2
+	shift 2
+	while [ $# -gt 0 ]; do
+		poke "$file" "$1" "$2"
+		shift 2
+	done
+}
+
+# sparse FILE LENGTH: a file of zeros that takes no room
+sparse() { dd if=/dev/null of="$1" bs=1 seek="$2" 2>/dev/null; }

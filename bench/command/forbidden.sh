@@ -1,0 +1,44 @@
+# shellcheck shell=sh disable=SC2034,SC2154,SC2162,SC2164
+# Files and folders that may not be read or written. Root may do all, so nobody runs the command for root: this comes last.
+
+try_forbidden() {
+	mkdir "$work/open" "$work/open/locked"
+	cp "$vendor" "$work/open/secret"
+	cp "$work/old" "$work/open/protected"
+	cp "$work/old" "$work/open/locked/out"
+	cp "$vendor" "$work/open/vendor"
+	chmod 000 "$work/open/secret"
+	chmod 444 "$work/open/protected"
+	chmod 555 "$work/open/locked"
+	chmod 777 "$work/open"
+	keeps_as_other 'open/secret: Permission denied' read "$work/open/secret"
+	keeps_as_other 'open/secret: Permission denied' audit "$work/open/vendor" "$work/open/secret"
+	keeps_as_other 'open/protected: Permission denied' move "$work/open/vendor" 0 "$work/open/protected"
+	keeps_as_other 'locked/out: Permission denied' move "$work/open/vendor" 0 "$work/open/locked/out"
+	keeps_as_other 'locked/none: Permission denied' move "$work/open/vendor" 0 "$work/open/locked/none"
+	chmod 644 "$work/open/locked/out"
+	keeps_as_other 'locked/out: Permission denied' move "$work/open/vendor" 0 "$work/open/locked/out"
+	ways="$ways, forbidden files and folders"
+}
+
+# the secret file's bytes can't be in the picture of a reader that may not read it
+keeps_as_other() { keeps "$work/open/locked" errs "$@"; same "$work/open/protected" "$work/old"; }
+
+# root's runs as nobody, with the command where nobody can reach it
+become_nobody() {
+	[ "$(id -u)" -eq 0 ] || return 0
+	mkdir "$work/bin"
+	cp "$command" "$work/bin/command"
+	[ -z "$emulator" ] || cp "$emulator" "$work/bin/emulator"
+	run() {
+		setpriv --reuid=65534 --regid=65534 --clear-groups \
+			${emulator:+"$work/bin/emulator"} "$work/bin/command" "$@"
+	}
+	run --help >/dev/null 2>&1
+}
+
+if become_nobody; then
+	try_forbidden
+else
+	not_run="$not_run; forbidden files and folders (root can't run as nobody here)"
+fi

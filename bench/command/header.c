@@ -1,0 +1,105 @@
+/* The header's inline helpers, tried as C and as C++; exit status 0 where all is as it should be. */
+#include "pajurenda.h"
+
+#include <stdio.h>
+#include <string.h>
+
+static int checks, wrong;
+
+/* One check. */
+static void check(int right, const char *what)
+{
+	checks++;
+	if (right)
+		return;
+	fprintf(stderr, "header: %s\n", what);
+	wrong++;
+}
+
+/* The names, 0 to 20. */
+static const char *const names[] = {
+	"ACCEPTED", "LENGTH", "VOLUME", "FILE", "SECTION", "HEADER", "SIZE", "COMPONENT", "BASE", "TABLE", "CONFIG",
+	"UPD", "TYPE", "PLACE", "OVERLAP", "SHEET", "IDENTITY", "FIELD", "NEWBASE", "PAIR", "ROOM",
+};
+
+/* Each number has its name and a sentence that no other has. */
+static void try_numbers(void)
+{
+	for (uint32_t i = 0; i <= 20; i++) {
+		check(strcmp(pajurenda_name(i), names[i]) == 0, "a name");
+		check(strlen(pajurenda_sentence(i)) > 10, "a sentence");
+		for (uint32_t j = 0; j < i; j++)
+			check(strcmp(pajurenda_sentence(i), pajurenda_sentence(j)) != 0, "two sentences alike");
+	}
+	check(strcmp(pajurenda_name(PAJURENDA_SHORT), "SHORT") == 0, "the name of 100");
+	check(strcmp(pajurenda_sentence(PAJURENDA_SHORT), "unknown") != 0, "the sentence of 100");
+	static const uint32_t others[] = { 21, 22, 99, 101, 65536, 65537, 4294967295u };
+	for (size_t i = 0; i < sizeof others / sizeof others[0]; i++) {
+		check(strcmp(pajurenda_name(others[i]), "unknown") == 0, "a name of no answer");
+		check(strcmp(pajurenda_sentence(others[i]), "unknown") == 0, "a sentence of no answer");
+	}
+}
+
+/* The signed field holds a value, given in two's complement. */
+static void try_signed(uint64_t stored, int64_t value)
+{
+	uint8_t answer[PAJURENDA_MOVE_BYTES];
+	memset(answer, 0xA5, sizeof answer);
+	for (unsigned i = 0; i < 8; i++)
+		answer[PAJURENDA_MOVE_MOVE + i] = (uint8_t)(stored >> (8 * i));
+	check(pajurenda_signed_field(answer, PAJURENDA_MOVE_MOVE) == value, "a signed field");
+	check(pajurenda_field(answer, PAJURENDA_MOVE_MOVE) == stored, "a field");
+}
+
+/* Fields stand where the offsets say, little-endian. */
+static void try_fields(void)
+{
+	uint8_t answer[PAJURENDA_READ_BYTES];
+	for (size_t i = 0; i < sizeof answer; i++)
+		answer[i] = (uint8_t)(i + 1);
+	check(pajurenda_field(answer, PAJURENDA_READ_NUMBER) == 0x0807060504030201u, "the first field");
+	check(pajurenda_field(answer, PAJURENDA_READ_END) == 0x5857565554535251u, "the last field");
+	check(pajurenda_identity(answer) == answer + 32, "the identity");
+	check(pajurenda_number(answer, 0) == 0 && pajurenda_number(answer, 3) == 0x030201, "a number");
+	try_signed(0, 0);
+	try_signed(1, 1);
+	try_signed(UINT64_MAX, -1);
+	try_signed(4293394432u, 4293394432);
+	try_signed((uint64_t)0 - 4293394432u, -4293394432);
+	try_signed((uint64_t)INT64_MAX, INT64_MAX);
+	try_signed((uint64_t)INT64_MAX + 1, INT64_MIN);
+}
+
+/* A place of the list: kind and position. */
+static void try_place(uint32_t stored, int stray, uint32_t position)
+{
+	uint8_t places[12];
+	memset(places, 0x5A, sizeof places);
+	for (unsigned i = 0; i < 4; i++)
+		places[4 + i] = (uint8_t)(stored >> (8 * i));
+	check(pajurenda_place(places, 1) == stored, "a place");
+	check(pajurenda_place(places, 2) == 0x5A5A5A5A, "the place after");
+	check(pajurenda_is_stray(pajurenda_place(places, 1)) == stray, "a stray");
+	check(pajurenda_position(pajurenda_place(places, 1)) == position, "a position");
+}
+
+/* The version's parts make up the whole. */
+static void try_version(void)
+{
+	char version[32];
+	snprintf(version, sizeof version, "%d.%d.%d", PAJURENDA_VERSION_MAJOR, PAJURENDA_VERSION_MINOR, PAJURENDA_VERSION_PATCH);
+	check(strcmp(version, PAJURENDA_VERSION) == 0, "the version");
+}
+
+int main(void)
+{
+	try_numbers();
+	try_fields();
+	try_place(0, 0, 0);
+	try_place(16777215, 0, 16777215);
+	try_place(16777216, 1, 0);
+	try_place(33554431, 1, 16777215);
+	try_version();
+	printf("%d\n", checks);
+	return wrong == 0 ? 0 : 1;
+}

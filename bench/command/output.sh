@@ -1,0 +1,62 @@
+# shellcheck shell=sh disable=SC2034,SC2154,SC2162,SC2164
+# Standard output that takes nothing.
+
+# unheard WORDS..: exit status 2 and a message where standard output is full, closed or a pipe nobody reads
+unheard() {
+	what=$*
+	if [ -c /dev/full ]; then
+		got=0
+		run "$@" >/dev/full 2>"$work/err" || got=$?
+		status_was 2
+		tells 'pajurenda: standard output: No space left on device'
+	fi
+	got=0
+	run "$@" >&- 2>"$work/err" || got=$?
+	status_was 2
+	tells 'pajurenda: standard output: Bad file descriptor'
+	rm -f "$work/closed"
+	{
+		while ! [ -e "$work/closed" ]; do sleep 0.02; done
+		got=0
+		run "$@" 2>"$work/err" || got=$?
+		echo "$got" >"$work/status"
+	} | { exec <&-; : >"$work/closed"; }
+	got=$(cat "$work/status")
+	status_was 2
+	tells 'pajurenda: standard output: Broken pipe'
+}
+
+try_unheard() {
+	[ -c /dev/full ] || not_run="$not_run; full standard output (no /dev/full)"
+	unheard --help
+	unheard help audit
+	unheard --version
+	unheard read "$vendor"
+	unheard read --words "$vendor"
+	unheard setting "$vendor" 40 2
+	unheard audit "$vendor" "$vendor"
+	unheard audit "$vendor" "$shipped"
+	unheard audit --ranges "$vendor" "$shipped"
+	unheard audit "$root/crates/audit_short/data/vendor.bin" "$root/crates/audit_short/data/shipped.bin"
+	unheard audit --bytes "$root/crates/audit_short/data/vendor.bin" "$root/crates/audit_short/data/shipped.bin"
+	unheard read "$work/empty"
+	unheard move "$vendor" 0x00100000 "$o/heard"
+	same "$o/heard" "$o/moved"
+}
+
+# with no standard file open none of OUT's bytes may be a message
+try_all_closed() {
+	rm "$o/heard"
+	what="move, all standard files closed"
+	got=0
+	run move "$vendor" 0x00100000 "$o/heard" <&- >&- 2>&- || got=$?
+	status_was 2
+	same "$o/heard" "$o/moved"
+	got=0
+	run move "$vendor" 1 "$o/heard" <&- >&- 2>&- || got=$?
+	status_was 2
+	same "$o/heard" "$o/moved"
+}
+
+try_unheard
+try_all_closed

@@ -1,0 +1,176 @@
+# shellcheck shell=sh disable=SC2034,SC2154,SC2162,SC2164
+# Options, help, version, numbers: any words.
+
+see='(see pajurenda --help)'
+
+# help_is WORDS..: the help on standard output, the same as help.NAME; none on standard error
+help_is() {
+	name=$1
+	shift
+	works 0 "$@"
+	same "$work/out" "$work/help.$name"
+}
+
+try_help() {
+	works 0 --help
+	cp "$work/out" "$work/help.all"
+	for word in read move apply setting audit help --words --bytes --ranges --version 'Exit status' ' 20  ROOM'; do
+		grep -qF -e "$word" "$work/out" || fail "the help does not speak of $word"
+		passed
+	done
+	for words in help -h '-h --help' '--help --help' '--help --version' 'help help'; do
+		# shellcheck disable=SC2086
+		help_is all $words
+	done
+	for name in read move apply setting audit; do
+		works 0 help "$name"
+		cp "$work/out" "$work/help.$name"
+		[ "$(head -n 1 "$work/out" | cut -d ' ' -f 1-3)" = "usage: pajurenda $name" ] || fail "no usage first"
+		grep -q '^Exit status: 0 .* 2 refused or failed' "$work/out" || fail "no exit status"
+		for words in "$name --help" "$name -h" "$name help" "--help $name" "-h $name" "$name a b c d --help" "$name --help --"; do
+			# shellcheck disable=SC2086
+			help_is "$name" $words
+		done
+	done
+	grep -qF -e --words "$work/help.read" || fail "read's help has no --words"
+	grep -qF -e --ranges "$work/help.audit" || fail "audit's help has no --ranges"
+}
+
+# the version of the header, and what the build said of the kit
+try_version() {
+	works 0 --version
+	version=$(sed -n 's/^#define PAJURENDA_VERSION "\(.*\)"$/\1/p' "$root/include/pajurenda.h")
+	[ "$(sed -n 1p "$work/out")" = "pajurenda $version" ] || fail "not the header's version"
+	sed -n 2p "$work/out" | grep -q '^proved with ..*' || fail "not a word of the kit"
+	[ "$(wc -l <"$work/out")" -eq 2 ] || fail "not two lines"
+	passed
+	fails_with 'pajurenda: read: takes no option --version (see pajurenda read --help)' read --version "$vendor"
+}
+
+try_wrong_words() {
+	fails_with "pajurenda: no command $see"
+	fails_with "pajurenda: no command $see" --
+	fails_with "pajurenda: no command $see" --bytes
+	fails_with "pajurenda: unknown command \"nonsense\" $see" nonsense
+	fails_with "pajurenda: unknown command \"nonsense\" $see" nonsense --help
+	fails_with "pajurenda: unknown command \"READ\" $see" READ a
+	fails_with "pajurenda: unknown command \"\" $see" ''
+	fails_with "pajurenda: unknown command \"nonsense\" $see" help nonsense
+	fails_with "pajurenda: unknown command \"--help\" $see" -- --help
+	fails_with "pajurenda: help: one word too many: \"move\" $see" help read move
+	fails_with 'pajurenda: read: IMAGE is missing (see pajurenda read --help)' read
+	fails_with 'pajurenda: read: one word too many: "b" (see pajurenda read --help)' read a b
+	fails_with 'pajurenda: move: IMAGE and BASE and OUT are missing (see pajurenda move --help)' move
+	fails_with 'pajurenda: move: BASE and OUT are missing (see pajurenda move --help)' move a
+	fails_with 'pajurenda: move: OUT is missing (see pajurenda move --help)' move a 0
+	fails_with 'pajurenda: move: one word too many: "c" (see pajurenda move --help)' move a 0 b c
+	fails_with 'pajurenda: apply: OUT is missing (see pajurenda apply --help)' apply a b
+	fails_with 'pajurenda: apply: one word too many: "d" (see pajurenda apply --help)' apply a b c d e
+	fails_with 'pajurenda: setting: LENGTH is missing (see pajurenda setting --help)' setting a 40
+	fails_with 'pajurenda: audit: SHIPPED is missing (see pajurenda audit --help)' audit a
+	fails_with 'pajurenda: audit: SHIPPED is missing (see pajurenda audit --help)' audit --bytes a
+	fails_with 'pajurenda: audit: one word too many: "c" (see pajurenda audit --help)' audit a b c
+}
+
+try_wrong_options() {
+	fails_with "pajurenda: unknown option --nonsense $see" --nonsense
+	fails_with "pajurenda: unknown option -x $see" -x --help
+	fails_with "pajurenda: unknown option --helpx $see" --helpx
+	fails_with "pajurenda: unknown option --help=read $see" --help=read
+	fails_with 'pajurenda: audit: unknown option --byte (see pajurenda audit --help)' audit --byte "$vendor" "$shipped"
+	fails_with 'pajurenda: audit: unknown option --byte (see pajurenda audit --help)' "--byte" audit "$vendor" "$shipped"
+	fails_with 'pajurenda: audit: unknown option -b (see pajurenda audit --help)' audit "$vendor" "$shipped" -b --nonsense
+	fails_with 'pajurenda: audit: unknown option --help?--bytes (see pajurenda audit --help)' audit "--help
+--bytes" "$vendor" "$shipped"
+	fails_with 'pajurenda: audit: takes no option --words (see pajurenda audit --help)' audit --words "$vendor" "$shipped"
+	fails_with 'pajurenda: read: takes no option --bytes (see pajurenda read --help)' read --bytes "$vendor"
+	fails_with 'pajurenda: read: takes no option --ranges (see pajurenda read --help)' read "$vendor" --ranges
+	fails_with 'pajurenda: audit: --bytes and --ranges exclude each other (see pajurenda audit --help)' \
+		audit --bytes "$vendor" "$shipped" --ranges
+	keeps "$o" fails_with 'pajurenda: move: unknown option -1 (see pajurenda move --help)' move "$vendor" -1 "$o/none"
+	keeps "$o" fails_with 'pajurenda: move: takes no option --words (see pajurenda move --help)' move --words "$vendor" 0 "$o/none"
+}
+
+# an option anywhere, and files that are named like one
+try_options_anywhere() {
+	works 1 audit --bytes "$vendor" "$shipped"
+	cp "$work/out" "$work/wanted_bytes"
+	for words in 'audit V --bytes S' 'audit V S --bytes' '--bytes audit V S' 'audit --bytes --bytes V S' 'audit V S --bytes --' \
+		'audit --bytes -- V S' '--bytes -- audit V S'; do
+		# shellcheck disable=SC2046
+		works 1 $(echo "$words" | sed "s|V|$vendor|; s|S|$shipped|")
+		same "$work/out" "$work/wanted_bytes"
+	done
+	cp "$vendor" "$i/--bytes"
+	cp "$vendor" "$i/-"
+	cp "$vendor" "$i/help"
+	(
+		cd "$i"
+		works 0 read -- --bytes
+		same "$work/out" "$work/wanted_reading"
+		works 0 read ./--bytes
+		same "$work/out" "$work/wanted_reading"
+		works 0 read -
+		same "$work/out" "$work/wanted_reading"
+		works 0 read -- help
+		same "$work/out" "$work/wanted_reading"
+		works 0 audit -- --bytes help
+		works 0 audit help -
+		fails_with 'pajurenda: --: No such file or directory' read -- --
+		keeps "$i" fails_with 'pajurenda: move: unknown option --out (see pajurenda move --help)' move v 0 --out
+		works 0 move v 0 -- --out
+		same ./--out "$o/new"
+		rm -- --out
+	)
+}
+
+# misread NUMBER SENTENCE: the number is refused as each of the words that are numbers, and nothing is written
+misread() {
+	keeps "$o" fails_with "pajurenda: move: BASE \"$1\" $2" move "$vendor" "$1" "$o/none"
+	fails_with "pajurenda: setting: OFFSET \"$1\" $2" setting "$vendor" "$1" 1
+	fails_with "pajurenda: setting: LENGTH \"$1\" $2" setting "$vendor" 40 "$1"
+}
+
+try_misread() {
+	misread 00512000 'starts with 0: write 0x00512000 for hex or 512000 for decimal'
+	misread 00100000 'starts with 0: write 0x00100000 for hex or 100000 for decimal'
+	misread 040 'starts with 0: write 0x040 for hex or 40 for decimal'
+	misread 00 'starts with 0: write 0x00 for hex or 0 for decimal'
+	misread 512000A 'has no 0x: write 0x512000A for hex'
+	misread FFF80000 'has no 0x: write 0xFFF80000 for hex'
+	misread 1e3 'has no 0x: write 0x1e3 for hex'
+	misread 0b1 'has no 0x: write 0x0b1 for hex'
+	misread 0X00512000 'has a capital X: write 0x00512000 for hex'
+	for number in '' x 0x 0X 0xg 0x1g x512000 512000h +1 ' 1' '1 ' 1.0 16,777,216 1_000 0x0x1 '0x 1' 0x-1; do
+		misread "$number" 'is not a number: write hex as 0x00512000, decimal without a leading 0'
+	done
+	for number in 18446744073709551616 0x10000000000000000 99999999999999999999999 0x8000000000000000000; do
+		misread "$number" 'does not fit 64 bits'
+	done
+	fails_with 'pajurenda: move: BASE "1?2" is not a number: write hex as 0x00512000, decimal without a leading 0' move "$vendor" '1
+2' "$o/none"
+}
+
+# digits of either case and any count of zeros after 0x; decimal as it is
+try_taken() {
+	for base in 0x512000 0x0512000 0x00512000 0x000000000000000000512000 5316608; do
+		works 0 move "$vendor" "$base" "$o/taken"
+		prints 'base 0x00512000' 'move -4289126400'
+	done
+	for base in 0xfff80000 0xFfF80000 4294443008; do
+		works 0 move "$vendor" "$base" "$o/taken"
+		prints 'base 0xFFF80000' 'move 0'
+	done
+	works 0 move "$vendor" 512000 "$o/taken"
+	prints 'base 0x0007D000' 'move -4293931008'
+	works 0 setting "$vendor" 0x28 0x2
+	prints 'place 4136' 'length 2' 'bytes 01 05'
+}
+
+try_help
+try_version
+try_wrong_words
+try_wrong_options
+try_options_anywhere
+try_misread
+try_taken

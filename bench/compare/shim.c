@@ -1,0 +1,93 @@
+/* The five calls over the second reader, for building and testing before the archive is there. */
+#include "pajurenda.h"
+
+#include <stdlib.h>
+
+#include "fields.h"
+#include "../second/second.h"
+
+#define FIELDS(list) (sizeof(list) / sizeof((list)[0]))
+
+/* The whole reading. */
+uint32_t pajurenda_read(const uint8_t *image, size_t length,
+			uint8_t *answer, size_t answer_length)
+{
+	if (answer_length < PAJURENDA_READ_BYTES)
+		return PAJURENDA_SHORT;
+	const struct second_reading r = second_read(image, length);
+	const uint64_t fields[] = { r.number, r.index, r.H, r.component, r.image_identity,
+				    r.revision, r.base, r.c, r.z, r.n, r.E };
+	put_fields(answer, fields, FIELDS(fields));
+	return (uint32_t)r.number;
+}
+
+/* The image moved in place. */
+uint32_t pajurenda_move(uint8_t *image, size_t length, uint64_t base,
+			uint8_t *answer, size_t answer_length)
+{
+	if (answer_length < PAJURENDA_MOVE_BYTES)
+		return PAJURENDA_SHORT;
+	const struct second_moved r = second_move(image, length, base);
+	const uint64_t fields[] = { r.number, r.index, (uint64_t)r.move };
+	put_fields(answer, fields, FIELDS(fields));
+	return (uint32_t)r.number;
+}
+
+/* The sheet applied in place. */
+uint32_t pajurenda_apply(uint8_t *image, size_t length,
+			 const uint8_t *sheet, size_t sheet_length,
+			 uint8_t *answer, size_t answer_length)
+{
+	if (answer_length < PAJURENDA_APPLY_BYTES)
+		return PAJURENDA_SHORT;
+	const struct second_applied r = second_apply(image, length, sheet, sheet_length);
+	const uint64_t fields[] = { r.number, r.index };
+	put_fields(answer, fields, FIELDS(fields));
+	return (uint32_t)r.number;
+}
+
+/* The place of one setting. */
+uint32_t pajurenda_setting(const uint8_t *image, size_t length, uint64_t offset, uint64_t size,
+			   uint8_t *answer, size_t answer_length)
+{
+	if (answer_length < PAJURENDA_SETTING_BYTES)
+		return PAJURENDA_SHORT;
+	const struct second_part r = second_setting(image, length, offset, size);
+	const uint64_t fields[] = { r.number, r.position, r.length };
+	put_fields(answer, fields, FIELDS(fields));
+	return (uint32_t)r.number;
+}
+
+/* The differences as bytes, through a list of numbers of the same count. */
+static struct second_audited list_differences(const uint8_t *vendor, const uint8_t *shipped,
+					      size_t length, uint8_t *places, uint64_t count)
+{
+	uint32_t *list = calloc((size_t)count + 1, sizeof *list);
+	if (list == NULL)
+		abort();
+	const struct second_audited r = second_audit(vendor, length, shipped, length, list, count);
+	for (size_t i = 0; i < count; i++)
+		put_number(places, 4 * i, 4, list[i]);
+	free(list);
+	return r;
+}
+
+/* The counts first, then the list where it has room. */
+uint32_t pajurenda_audit(const uint8_t *vendor, size_t vendor_length,
+			 const uint8_t *shipped, size_t shipped_length,
+			 uint8_t *places, size_t places_length,
+			 uint8_t *answer, size_t answer_length)
+{
+	if (answer_length < PAJURENDA_AUDIT_BYTES)
+		return PAJURENDA_SHORT;
+	uint32_t none = 0;
+	struct second_audited r =
+		second_audit(vendor, vendor_length, shipped, shipped_length, &none, 0);
+	const uint64_t count = r.settings + r.strays;
+	if (r.number == PAJURENDA_ROOM && count <= places_length / PAJURENDA_PLACE_BYTES)
+		r = list_differences(vendor, shipped, vendor_length, places, count);
+	const uint64_t fields[] = { r.number, r.index, r.base, r.settings, r.strays,
+				    r.bits, r.explained };
+	put_fields(answer, fields, FIELDS(fields));
+	return (uint32_t)r.number;
+}

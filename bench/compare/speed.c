@@ -1,0 +1,287 @@
+/* The library's speed as a ratio to the second reader's plain C, and for the audit to memcmp: each time the best of the row's runs. */
+#define _POSIX_C_SOURCE 200809L
+
+#include "pajurenda.h"
+
+#include <inttypes.h>
+#include <stdbool.h>
+#include <stdio.h>
+#include <stdlib.h>
+#include <string.h>
+#include <time.h>
+
+#include "fields.h"
+#include "images.h"
+#include "../second/second.h"
+
+/* A run has so many seconds at least; a row has so many seconds and runs, and goes on while one of the last runs was better. */
+#define SHORTEST 0.002
+#define LEAST_SECONDS 1.5
+#define LEAST_RUNS 25u
+#define QUIET_RUNS 12u
+#define MOST_RUNS 2000u
+#define BETTER 0.995
+#define BLOCK ((size_t)64)
+#define FIELDS_SET 16
+
+static struct plan plan;
+static uint8_t *image, *shipped, *places;
+static uint32_t *list;
+static size_t size, places_count;
+static uint8_t sheet[16 + 10 * FIELDS_SET];
+static uint8_t answer[PAJURENDA_READ_BYTES];
+static volatile uint64_t refused, different;
+static int (*const volatile whole_compare)(const void *, const void *, size_t) = memcmp;
+
+/* One call. */
+typedef void work(void);
+
+/* Two bases in turn, whoever moves, so that every move moves. */
+static uint64_t next_base(void)
+{
+	static uint64_t turn;
+	return turn++ % 2 == 0 ? 0x00100000 : 0x80000000;
+}
+
+static void library_read(void)
+{
+	refused += pajurenda_read(image, size, answer, sizeof answer);
+}
+
+static void plain_read(void)
+{
+	refused += second_read(image, size).number;
+}
+
+static void library_move(void)
+{
+	refused += pajurenda_move(image, size, next_base(), answer, sizeof answer);
+}
+
+static void plain_move(void)
+{
+	refused += second_move(image, size, next_base()).number;
+}
+
+static void library_apply(void)
+{
+	refused += pajurenda_apply(image, size, sheet, sizeof sheet, answer, sizeof answer);
+}
+
+static void plain_apply(void)
+{
+	refused += second_apply(image, size, sheet, sizeof sheet).number;
+}
+
+static void library_audit(void)
+{
+	refused += pajurenda_audit(image, size, shipped, size, places, 4 * places_count,
+				answer, sizeof answer);
+}
+
+static void plain_audit(void)
+{
+	refused += second_audit(image, size, shipped, size, list, places_count).number;
+}
+
+/* Both buffers at once. */
+static void memcmp_whole(void)
+{
+	different += (uint64_t)(whole_compare(image, shipped, size) != 0);
+}
+
+/* Both buffers block by block, so that a difference does not end it. */
+static void memcmp_blocks(void)
+{
+	uint64_t blocks = 0;
+	for (size_t at = 0; at < size; at += BLOCK)
+		blocks += (uint64_t)(whole_compare(image + at, shipped + at, BLOCK) != 0);
+	different += blocks;
+}
+
+/* ---- time ---- */
+
+/* Seconds that the processor gave us: what a busy machine does meanwhile doesn't count. */
+static double now(void)
+{
+	struct timespec at;
+	clock_gettime(CLOCK_PROCESS_CPUTIME_ID, &at);
+	return (double)at.tv_sec + (double)at.tv_nsec / 1e9;
+}
+
+/* Seconds for a number of calls. */
+static double time_of(work *call, uint64_t count)
+{
+	const double from = now();
+	for (uint64_t i = 0; i < count; i++)
+		call();
+	return now() - from;
+}
+
+/* How many calls make one measurement long enough. */
+static uint64_t calls_for(work *call)
+{
+	uint64_t count = 1;
+	while (time_of(call, count) < SHORTEST)
+		count *= 2;
+	return count;
+}
+
+/* One run of each work in turn; true where one was better than its best so far. */
+static bool run_each(work *const *calls, const uint64_t *count, double *best, size_t works)
+{
+	bool better = false;
+	for (size_t k = 0; k < works; k++) {
+		const double one = time_of(calls[k], count[k]) / (double)count[k];
+		better = better || one < BETTER * best[k];
+		best[k] = one < best[k] ? one : best[k];
+	}
+	return better;
+}
+
+/* The best time of one call for each of up to three works; gives the number of runs. */
+static unsigned best_of(work *const *calls, double *best, size_t works)
+{
+	uint64_t count[3] = { 0 };
+	unsigned runs = 0, quiet = 0;
+	const double from = now();
+	for (size_t k = 0; k < works; k++) {
+		count[k] = calls_for(calls[k]);
+		best[k] = 1e9;
+	}
+	while (runs < LEAST_RUNS ||
+	       (runs < MOST_RUNS && (quiet < QUIET_RUNS || now() - from < LEAST_SECONDS))) {
+		quiet = run_each(calls, count, best, works) ? 0 : quiet + 1;
+		runs++;
+	}
+	return runs;
+}
+
+/* A time in a unit that can be read. */
+static void show_time(double seconds)
+{
+	if (seconds < 1e-6)
+		printf(" %.0f ns |", seconds * 1e9);
+	else if (seconds < 1e-3)
+		printf(" %.1f µs |", seconds * 1e6);
+	else
+		printf(" %.2f ms |", seconds * 1e3);
+}
+
+/* One row of the table; the third work, where there is one, is memcmp. */
+static void row(const char *name, work *library, work *plain, work *third)
+{
+	work *const calls[3] = { library, plain, third };
+	double best[3] = { 0 };
+	const unsigned runs = best_of(calls, best, third == NULL ? 2 : 3);
+	if (refused != 0) {
+		fprintf(stderr, "speed: %s was refused\n", name);
+		exit(2);
+	}
+	printf("| %s | %zu | %" PRIu64 " |", name, size / 1024, plan.n);
+	show_time(best[0]);
+	show_time(best[1]);
+	printf(" %.2f |", best[0] / best[1]);
+	if (third != NULL) {
+		show_time(best[2]);
+		printf(" %.2f |", best[0] / best[2]);
+	} else {
+		printf(" | |");
+	}
+	printf(" %u |\n", runs);
+	fflush(stdout);
+}
+
+/* ---- inputs ---- */
+
+/* A good sheet of a few settings of two bytes. */
+static void make_sheet(void)
+{
+	put_number(sheet, 0, 8, plan.identity);
+	put_number(sheet, 8, 4, plan.revision);
+	put_number(sheet, 12, 4, FIELDS_SET);
+	for (uint64_t i = 0; i < FIELDS_SET; i++) {
+		put_number(sheet, 16 + 8 * i, 4, 32 + 4 * i);
+		put_number(sheet, 20 + 8 * i, 2, 2);
+		put_number(sheet, 22 + 8 * i, 2, 16 + 8 * FIELDS_SET + 2 * i);
+		put_number(sheet, 16 + 8 * FIELDS_SET + 2 * i, 2, i);
+	}
+}
+
+/* An accepted image of a length with n entries. */
+static void make_image(size_t length, uint64_t n)
+{
+	numbers_from(length + n);
+	plan_plain(&plan);
+	plan.n = n;
+	plan.before = n / 2;
+	plan.z = 4096;
+	plan.base = 0xF0000000;
+	lay_out(&plan, length);
+	size = (size_t)plan.length;
+	fill_bytes(image, plan.length);
+	build(&plan, image);
+	make_sheet();
+	if (size != length || second_read(image, size).number != 0) {
+		fputs("speed: the image is not as planned\n", stderr);
+		exit(2);
+	}
+}
+
+/* The shipped image the same; or moved, with every 16th byte after the tables another. */
+static void make_shipped(bool many)
+{
+	memcpy(shipped, image, size);
+	if (many) {
+		(void)second_move(shipped, size, 0x00100000);
+		for (size_t at = (size_t)plan.E; at < size; at += 16)
+			shipped[at] ^= 0x11;
+	}
+	const struct second_audited a = second_audit(image, size, shipped, size, list, 0);
+	places_count = (size_t)(a.settings + a.strays);
+}
+
+/* Memory or the end. */
+static void *memory(size_t bytes)
+{
+	void *got = calloc(1, bytes);
+	if (got == NULL) {
+		fputs("speed: no memory\n", stderr);
+		exit(2);
+	}
+	return got;
+}
+
+/* All rows of one length and one n. */
+static void rows(size_t length, uint64_t n)
+{
+	make_image(length, n);
+	row("read", library_read, plain_read, NULL);
+	row("move", library_move, plain_move, NULL);
+	row("apply", library_apply, plain_apply, NULL);
+	make_shipped(false);
+	row("audit, none", library_audit, plain_audit, memcmp_whole);
+	make_shipped(true);
+	row("audit, many", library_audit, plain_audit, memcmp_blocks);
+}
+
+/* The table. */
+int main(void)
+{
+	static const size_t lengths[] = { 65536, 1048576, 16777216 };
+	static const uint64_t counts[] = { 0, 16, 1024 };
+	image = memory(TWO24);
+	shipped = memory(TWO24);
+	places = memory(4 * TWO24);
+	list = memory(4 * TWO24);
+	puts("| call | KiB | n | library | plain C | ratio | memcmp | ratio | runs |");
+	puts("|---|---|---|---|---|---|---|---|---|");
+	for (size_t i = 0; i < 3; i++)
+		for (size_t k = 0; k < 3; k++)
+			rows(lengths[i], counts[k]);
+	printf("\nProcessor time of our own, the best of as many runs as the row says (%u at least, in turn, until %u in a\n"
+	       "row were no better). Ratio: library's time / the other's. \"none\": no difference, memcmp over the\n"
+	       "whole; \"many\": moved, every 16th byte another, memcmp in blocks of %zu.\n",
+	       LEAST_RUNS, QUIET_RUNS, BLOCK);
+	return 0;
+}

@@ -1,0 +1,595 @@
+#include "second.h"
+
+#include <stdbool.h>
+#include <stddef.h>
+
+#define TWO32 UINT64_C(4294967296)
+#define STRAY UINT64_C(16777216)
+#define MOST_WORDS 1025
+
+/* The letters of document 01, filled in rule by rule. */
+struct letters {
+	const uint8_t *image;
+	uint64_t length;
+	uint64_t h, V, x, e;
+	uint64_t f, s, section;
+	uint64_t H, L;
+	uint64_t component, base;
+	uint64_t p, n, E;
+	uint64_t c, z;
+	uint64_t index;
+};
+
+/* Refusal 3: the header file's GUID as stored. */
+static const uint8_t header_file[16] = {
+	0xBE, 0x40, 0x27, 0x91, 0x84, 0x22, 0x34, 0x47,
+	0xB9, 0x71, 0x84, 0xB0, 0x27, 0x35, 0x3F, 0x0C,
+};
+
+/* Refusal 11: the letters of components 1..4. */
+static const uint8_t component_letter[4] = { 'T', 'M', 'S', 'I' };
+
+/* Sources: all numbers are little-endian. */
+static uint64_t little(const uint8_t *bytes, uint64_t at, uint64_t width)
+{
+	uint64_t value = 0;
+	for (uint64_t i = width; i > 0; i--)
+		value = value * 256 + bytes[at + i - 1];
+	return value;
+}
+
+/* A number of the image. */
+static uint64_t number_at(const struct letters *w, uint64_t at, uint64_t width)
+{
+	return little(w->image, at, width);
+}
+
+/* Refusals 2, 5 and 9: four characters stand at a position. */
+static bool stands(const struct letters *w, uint64_t at, const char *four)
+{
+	for (uint64_t i = 0; i < 4; i++)
+		if (w->image[at + i] != (uint8_t)four[i])
+			return false;
+	return true;
+}
+
+/* Sources: rounding up to a multiple of 8. */
+static uint64_t round8(uint64_t value)
+{
+	return (value + 7) / 8 * 8;
+}
+
+/* Sources: rounding up to a multiple of 4. */
+static uint64_t round4(uint64_t value)
+{
+	return (value + 3) / 4 * 4;
+}
+
+/* Refusal 1. */
+static bool refuse_length(struct letters *w)
+{
+	return w->length < 72 || w->length > 16777216;
+}
+
+/* Refusal 2: the 16-bit words of bytes 0..h-1, modulo 65,536. */
+static uint64_t volume_sum(const struct letters *w)
+{
+	uint64_t sum = 0;
+	for (uint64_t i = 0; i < w->h; i += 2)
+		sum += number_at(w, i, 2);
+	return sum % 65536;
+}
+
+/* Refusal 2: where there is an extended header, it lies between the header and V. */
+static bool refuse_extension(struct letters *w)
+{
+	if (w->x == 0)
+		return false;
+	if (w->x < w->h || w->x + 20 > w->V)
+		return true;
+	w->e = number_at(w, w->x + 16, 4);
+	return w->e < 20 || w->x + w->e > w->V;
+}
+
+/* Refusal 2. */
+static bool refuse_volume(struct letters *w)
+{
+	if (!stands(w, 40, "_FVH"))
+		return true;
+	w->h = number_at(w, 48, 2);
+	w->V = number_at(w, 32, 8);
+	if (!(72 <= w->h && w->h <= w->V && w->V <= w->length))
+		return true;
+	if (w->h % 2 != 0 || volume_sum(w) != 0)
+		return true;
+	w->x = number_at(w, 52, 2);
+	return refuse_extension(w);
+}
+
+/* Refusal 3: the header bytes f..f+23, those at f+17 and f+23 taken as 0, modulo 256. */
+static uint64_t file_sum(const struct letters *w)
+{
+	uint64_t sum = 0;
+	for (uint64_t i = 0; i < 24; i++)
+		if (i != 17 && i != 23)
+			sum += w->image[w->f + i];
+	return sum % 256;
+}
+
+/* Refusal 3: the name at f is the header file's GUID. */
+static bool named_header_file(const struct letters *w)
+{
+	for (uint64_t i = 0; i < 16; i++)
+		if (w->image[w->f + i] != header_file[i])
+			return false;
+	return true;
+}
+
+/* Refusal 3. */
+static bool refuse_file(struct letters *w)
+{
+	w->f = w->x == 0 ? round8(w->h) : round8(w->x + w->e);
+	if (w->f + 24 > w->V || !named_header_file(w))
+		return true;
+	if (w->image[w->f + 19] % 2 == 1 || file_sum(w) != 0)
+		return true;
+	w->s = number_at(w, w->f + 20, 3);
+	return w->s < 28 || w->f + w->s > w->V;
+}
+
+/* Refusal 4. */
+static bool refuse_section(struct letters *w)
+{
+	w->section = number_at(w, w->f + 24, 3);
+	return w->image[w->f + 27] != 0x19 || w->section < 76 || w->section > w->s - 24;
+}
+
+/* Refusal 5. */
+static bool refuse_header(struct letters *w)
+{
+	w->H = w->f + 28;
+	if (!stands(w, w->H, "FSPH") || w->image[w->H + 11] < 3)
+		return true;
+	w->L = number_at(w, w->H + 4, 4);
+	return w->L < 72 || w->L > 256 || 4 + w->L > w->section;
+}
+
+/* Refusal 6. */
+static bool refuse_size(struct letters *w)
+{
+	return number_at(w, w->H + 24, 4) != w->length;
+}
+
+/* Refusal 7. */
+static bool refuse_component(struct letters *w)
+{
+	w->component = number_at(w, w->H + 34, 2) / 4096;
+	return w->component < 1 || w->component > 4;
+}
+
+/* "Moving": lowest twelve bits zero, base + image size <= 2^32; a base of 2^32 or more never is. */
+static bool legal(uint64_t base, uint64_t length)
+{
+	return base < TWO32 && base % 4096 == 0 && base + length <= TWO32;
+}
+
+/* Refusal 8. */
+static bool refuse_base(struct letters *w)
+{
+	w->base = number_at(w, w->H + 28, 4);
+	return !legal(w->base, w->length);
+}
+
+/* Refusal 9, "Patch table": p = round4(H+L), moved past FSPE; true where FSPE is at fault. */
+static bool refuse_extended(struct letters *w, uint64_t end)
+{
+	w->p = round4(w->H + w->L);
+	if (w->p + 4 > end)
+		return true;
+	if (!stands(w, w->p, "FSPE"))
+		return false;
+	if (w->p + 8 > end)
+		return true;
+	const uint64_t extended = number_at(w, w->p + 4, 4);
+	if (extended < 24 || w->p + extended > end)
+		return true;
+	w->p = round4(w->p + extended);
+	return false;
+}
+
+/* Refusal 9, "Patch table": all of it lies within the section. */
+static bool refuse_table(struct letters *w)
+{
+	const uint64_t end = w->f + 24 + w->section;
+	if (refuse_extended(w, end) || w->p + 12 > end)
+		return true;
+	if (!stands(w, w->p, "FSPP") || w->image[w->p + 6] != 1)
+		return true;
+	w->n = number_at(w, w->p + 8, 4);
+	w->E = w->p + 12 + 4 * w->n;
+	return w->n > 1024 || w->E > end;
+}
+
+/* Refusal 10. */
+static bool refuse_config(struct letters *w)
+{
+	w->c = number_at(w, w->H + 36, 4);
+	w->z = number_at(w, w->H + 40, 4);
+	return w->z < 32 || w->z > 65536 || w->c < w->E || w->c + w->z > w->length;
+}
+
+/* Refusal 11. */
+static bool refuse_upd(struct letters *w)
+{
+	return w->image[w->c + 6] != '_' ||
+	       w->image[w->c + 7] != component_letter[w->component - 1];
+}
+
+/* "Patch table": entries of 4 bytes follow from p+12. */
+static uint64_t entry_at(const struct letters *w, uint64_t i)
+{
+	return number_at(w, w->p + 12 + 4 * i, 4);
+}
+
+/* "Where an entry points": false where that is below 0. */
+static bool points(const struct letters *w, uint64_t entry, uint64_t *place)
+{
+	const uint64_t low = entry % 16777216;
+	if (entry / UINT64_C(2147483648) == 0) {
+		*place = low;
+		return true;
+	}
+	const uint64_t back = 16777216 - low;
+	if (back > w->length)
+		return false;
+	*place = w->length - back;
+	return true;
+}
+
+/* Refusal 12. */
+static bool refuse_type(struct letters *w)
+{
+	for (uint64_t i = 0; i < w->n; i++) {
+		const uint64_t type = entry_at(w, i) / 16777216 % 16;
+		if (type != 0 && type != 15) {
+			w->index = i;
+			return true;
+		}
+	}
+	return false;
+}
+
+/* Refusal 13: below 0, or four bytes do not fit. */
+static bool refuse_place(struct letters *w)
+{
+	for (uint64_t i = 0; i < w->n; i++) {
+		uint64_t place = 0;
+		if (!points(w, entry_at(w, i), &place) || place + 4 > w->length) {
+			w->index = i;
+			return true;
+		}
+	}
+	return false;
+}
+
+/* Refusal 14: four bytes at a place and the bytes from..to-1 have one in common. */
+static bool meets(uint64_t place, uint64_t from, uint64_t to)
+{
+	return place < to && from < place + 4;
+}
+
+/* Refusal 14: one entry, all of them being inside the image by refusal 13. */
+static bool entry_overlaps(const struct letters *w, uint64_t i)
+{
+	uint64_t place = 0, earlier = 0;
+	(void)points(w, entry_at(w, i), &place);
+	if (meets(place, 0, w->E) || meets(place, w->c, w->c + w->z))
+		return true;
+	for (uint64_t j = 0; j < i; j++) {
+		(void)points(w, entry_at(w, j), &earlier);
+		if (meets(place, earlier, earlier + 4))
+			return true;
+	}
+	return false;
+}
+
+/* Refusal 14. */
+static bool refuse_overlap(struct letters *w)
+{
+	for (uint64_t i = 0; i < w->n; i++) {
+		if (entry_overlaps(w, i)) {
+			w->index = i;
+			return true;
+		}
+	}
+	return false;
+}
+
+/* "An accepted reading gives". */
+static struct second_reading accepted(const struct letters *w)
+{
+	return (struct second_reading){
+		.number = 0,
+		.index = 0,
+		.H = w->H,
+		.component = w->component,
+		.image_identity = number_at(w, w->H + 16, 8),
+		.revision = number_at(w, w->H + 12, 4),
+		.base = w->base,
+		.c = w->c,
+		.z = w->z,
+		.n = w->n,
+		.E = w->E,
+	};
+}
+
+/* The table's order: a check is made only if all earlier ones passed; 0 where accepted. */
+static uint64_t judge(struct letters *w)
+{
+	static bool (*const refusal[14])(struct letters *) = {
+		refuse_length, refuse_volume, refuse_file, refuse_section,
+		refuse_header, refuse_size, refuse_component, refuse_base,
+		refuse_table, refuse_config, refuse_upd, refuse_type,
+		refuse_place, refuse_overlap,
+	};
+
+	for (size_t i = 0; i < 14; i++)
+		if (refusal[i](w))
+			return i + 1;
+	return 0;
+}
+
+/* "Reading an image". */
+struct second_reading second_read(const uint8_t *image, uint64_t length)
+{
+	struct letters w = { .image = image, .length = length };
+	const uint64_t number = judge(&w);
+
+	if (number != 0)
+		return (struct second_reading){ .number = number, .index = w.index };
+	return accepted(&w);
+}
+
+/* "Moving": new minus old modulo 2^32. */
+static uint64_t difference(uint64_t new_base, uint64_t old_base)
+{
+	return (TWO32 + new_base - old_base) % TWO32;
+}
+
+/* "Moving": the difference is added with wraparound to one word. */
+static void move_word(uint8_t *image, uint64_t at, uint64_t by)
+{
+	const uint64_t word = (little(image, at, 4) + by) % TWO32;
+	for (uint64_t i = 0; i < 4; i++)
+		image[at + i] = (uint8_t)(word >> (8 * i));
+}
+
+/* "Moving": the base word and each patch word; the table itself has no byte of them. */
+static void move_words(const struct letters *w, uint8_t *image, uint64_t by)
+{
+	move_word(image, w->H + 28, by);
+	for (uint64_t i = 0; i < w->n; i++) {
+		uint64_t place = 0;
+		(void)points(w, entry_at(w, i), &place);
+		move_word(image, place, by);
+	}
+}
+
+/* "Moving": refusals 1..14, then 18. */
+struct second_moved second_move(uint8_t *image, uint64_t length, uint64_t new_base)
+{
+	struct letters w = { .image = image, .length = length };
+	uint64_t number = judge(&w);
+
+	if (number == 0 && !legal(new_base, length))
+		number = 18;
+	if (number != 0)
+		return (struct second_moved){ .number = number, .index = w.index };
+	move_words(&w, image, difference(new_base, w.base));
+	return (struct second_moved){ .move = (int64_t)new_base - (int64_t)w.base };
+}
+
+/* "The release sheet": the lent sheet and its count m. */
+struct sheet {
+	const uint8_t *bytes;
+	uint64_t length;
+	uint64_t m;
+};
+
+/* "The release sheet": one entry of 8 bytes. */
+struct field {
+	uint64_t offset, length, body;
+};
+
+/* "The release sheet": m entries of 8 bytes from 16 on. */
+static struct field field_at(const struct sheet *s, uint64_t i)
+{
+	const uint64_t at = 16 + 8 * i;
+	return (struct field){
+		.offset = little(s->bytes, at, 4),
+		.length = little(s->bytes, at + 4, 2),
+		.body = little(s->bytes, at + 6, 2),
+	};
+}
+
+/* Refusal 15: lengths, running body positions, offsets in order, the last body ending the sheet. */
+static bool refuse_fields(const struct sheet *s)
+{
+	uint64_t running = 16 + 8 * s->m, end = 0;
+	if (running > s->length)
+		return true;
+	for (uint64_t i = 0; i < s->m; i++) {
+		const struct field field = field_at(s, i);
+		if (field.length == 0 || field.body != running || field.offset < end)
+			return true;
+		running += field.length;
+		end = field.offset + field.length;
+	}
+	return running != s->length;
+}
+
+/* Refusal 15. */
+static bool refuse_sheet(struct sheet *s)
+{
+	if (s->length < 16 || s->length > 65535)
+		return true;
+	s->m = little(s->bytes, 12, 2);
+	return s->m > 256 || little(s->bytes, 14, 2) != 0 || refuse_fields(s);
+}
+
+/* Refusal 16. */
+static bool refuse_identity(const struct letters *w, const struct sheet *s)
+{
+	return little(s->bytes, 0, 8) != number_at(w, w->H + 16, 8) ||
+	       little(s->bytes, 8, 4) != number_at(w, w->H + 12, 4);
+}
+
+/* Refusal 17. */
+static bool refuse_field(const struct letters *w, const struct sheet *s)
+{
+	for (uint64_t i = 0; i < s->m; i++) {
+		const struct field field = field_at(s, i);
+		if (field.offset < 32 || field.offset + field.length > w->z)
+			return true;
+	}
+	return false;
+}
+
+/* "The release sheet": the image's refusals, then 15, 16, 17. */
+static uint64_t judge_sheet(struct letters *w, struct sheet *s)
+{
+	const uint64_t number = judge(w);
+	if (number != 0)
+		return number;
+	if (refuse_sheet(s))
+		return 15;
+	if (refuse_identity(w, s))
+		return 16;
+	return refuse_field(w, s) ? 17 : 0;
+}
+
+/* "The release sheet": the bodies go into the region, every other byte stays. */
+struct second_applied second_apply(uint8_t *image, uint64_t length,
+				   const uint8_t *sheet, uint64_t sheet_length)
+{
+	struct letters w = { .image = image, .length = length };
+	struct sheet s = { .bytes = sheet, .length = sheet_length };
+	const uint64_t number = judge_sheet(&w, &s);
+
+	if (number != 0)
+		return (struct second_applied){ .number = number, .index = w.index };
+	for (uint64_t i = 0; i < s.m; i++) {
+		const struct field field = field_at(&s, i);
+		for (uint64_t k = 0; k < field.length; k++)
+			image[w.c + field.offset + k] = sheet[field.body + k];
+	}
+	return (struct second_applied){ .number = 0 };
+}
+
+/* "One setting": refusals 1..14, then 17; the end is a whole number that is never cut down. */
+struct second_part second_setting(const uint8_t *image, uint64_t length,
+				  uint64_t offset, uint64_t size)
+{
+	struct letters w = { .image = image, .length = length };
+	uint64_t number = judge(&w);
+
+	if (number == 0 && (size == 0 || offset < 32 || offset > w.z || size > w.z - offset))
+		number = 17;
+	if (number != 0)
+		return (struct second_part){ .number = number };
+	return (struct second_part){ .position = w.c + offset, .length = size };
+}
+
+/* "The audit": the words a move changes, in order of position, and how far the walk has come. */
+struct words {
+	uint64_t place[MOST_WORDS];
+	uint64_t count;
+	uint64_t next;
+};
+
+/* "The audit": one word put in its place by position. */
+static void add_word(struct words *words, uint64_t place)
+{
+	uint64_t i = words->count++;
+	for (; i > 0 && words->place[i - 1] > place; i--)
+		words->place[i] = words->place[i - 1];
+	words->place[i] = place;
+}
+
+/* "The audit": the base word and each patch word. */
+static void add_words(struct words *words, const struct letters *w)
+{
+	add_word(words, w->H + 28);
+	for (uint64_t i = 0; i < w->n; i++) {
+		uint64_t place = 0;
+		(void)points(w, entry_at(w, i), &place);
+		add_word(words, place);
+	}
+}
+
+/* "The audit": a byte of the vendor image moved; asked for in order of position. */
+static uint64_t reference_at(const struct letters *w, struct words *words, uint64_t at, uint64_t by)
+{
+	while (words->next < words->count && words->place[words->next] + 4 <= at)
+		words->next++;
+	if (words->next == words->count || at < words->place[words->next])
+		return w->image[at];
+	const uint64_t place = words->place[words->next];
+	const uint64_t word = (number_at(w, place, 4) + by) % TWO32;
+	return word >> (8 * (at - place)) & 255;
+}
+
+/* "The audit": the number of bits that differ. */
+static uint64_t ones(uint64_t byte)
+{
+	uint64_t count = 0;
+	for (; byte != 0; byte /= 2)
+		count += byte % 2;
+	return count;
+}
+
+/* "The audit": the counts of all differences; with a list, their entries too. */
+static struct second_audited compare(const struct letters *w, const uint8_t *shipped,
+				     uint64_t base, uint32_t *places)
+{
+	struct words words = { .count = 0 };
+	struct second_audited a = { .base = base };
+	add_words(&words, w);
+	for (uint64_t at = 0; at < w->length; at++) {
+		const uint64_t turned =
+			reference_at(w, &words, at, difference(base, w->base)) ^ shipped[at];
+		const bool setting = at >= w->c + 32 && at < w->c + w->z;
+		if (turned == 0)
+			continue;
+		if (places != NULL)
+			places[a.settings + a.strays] = (uint32_t)(setting ? at : at + STRAY);
+		a.settings += setting ? 1 : 0;
+		a.strays += setting ? 0 : 1;
+		a.bits += setting ? ones(turned) : 0;
+	}
+	a.explained = a.strays == 0 ? 1 : 0;
+	return a;
+}
+
+/* "The audit": refusals 1..14, 19, 18, then 20, which keeps base and counts. */
+struct second_audited second_audit(const uint8_t *vendor, uint64_t vendor_length,
+				   const uint8_t *shipped, uint64_t shipped_length,
+				   uint32_t *places, uint64_t places_count)
+{
+	struct letters w = { .image = vendor, .length = vendor_length };
+	const uint64_t number = judge(&w);
+
+	if (number != 0)
+		return (struct second_audited){ .number = number, .index = w.index };
+	if (shipped_length != vendor_length)
+		return (struct second_audited){ .number = 19 };
+	const uint64_t base = little(shipped, w.H + 28, 4);
+	if (!legal(base, vendor_length))
+		return (struct second_audited){ .number = 18 };
+	struct second_audited a = compare(&w, shipped, base, NULL);
+	if (a.settings + a.strays <= places_count)
+		return compare(&w, shipped, base, places);
+	a.number = 20;
+	a.explained = 0;
+	return a;
+}

@@ -1,0 +1,37 @@
+/* What the command's files share: exit status, bytes in memory, the subcommands. */
+#ifndef COMMAND_H
+#define COMMAND_H
+
+#include <stddef.h>
+#include <stdint.h>
+
+/* Exit status. */
+enum status { FINE = 0, UNEXPLAINED = 1, FAILED = 2 };
+
+/* The options, as bits. */
+enum option { HELP = 1, VERSION = 2, BYTES = 4, RANGES = 8, WORDS = 16 };
+
+/* A file's bytes in memory; never at NULL once loaded, even where empty. */
+struct bytes {
+	uint8_t *at;
+	size_t length;
+};
+
+/* A subcommand: the words and options it takes, and what it says of itself. */
+struct command {
+	const char *name;
+	const char *words[4]; /* the words' names, up to a NULL */
+	unsigned options;
+	enum status (*run)(char **word, unsigned options);
+	const char *usage;
+	const char *brief;
+	const char *help;
+};
+
+enum status do_read(char **word, unsigned options);
+enum status do_move(char **word, unsigned options);
+enum status do_apply(char **word, unsigned options);
+enum status do_setting(char **word, unsigned options);
+enum status do_audit(char **word, unsigned options);
+
+#endif

@@ -1,0 +1,12 @@
+/* Files read whole, and written whole or not at all. */
+#ifndef COMMAND_FILES_H
+#define COMMAND_FILES_H
+
+#include <stdbool.h>
+
+#include "command.h"
+
+bool load(const char *name, struct bytes *file);
+bool save(const char *name, const struct bytes *file);
+
+#endif

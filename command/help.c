@@ -1,0 +1,158 @@
+/* The subcommands and what the command says of itself. */
+#include "help.h"
+
+#include <stdio.h>
+#include <string.h>
+
+#include "pajurenda.h"
+
+/* The identity of the kit that proved the library, given where the command is built. */
+#ifndef PAJURENDA_KIT
+#define PAJURENDA_KIT "unknown kit"
+#endif
+
+/* The room for a refusal's sentence in a line. */
+#define LINE ((size_t)70)
+
+static const char read_help[] =
+	"Shows what the header of IMAGE says: its length, component, identity (in hex, and as\n"
+	"text where it is printable), revision, base, the position of the FSP header, the number\n"
+	"of patch entries, the position after the last of them, and the configuration region's\n"
+	"position c and size z.\n"
+	"\n"
+	"--words  also lists the words that a move changes: the base word, then each patch word\n"
+	"         with its entry's index and value, its position and what stands there.\n";
+
+static const char move_help[] =
+	"Writes to OUT the image IMAGE moved to BASE, and shows the base and by how much the\n"
+	"image moved. A base is a multiple of 4096, base plus length at most 2^32.\n"
+	"\n"
+	"BASE is hex as 0x00512000, as every base is shown, or decimal without a leading 0.\n";
+
+static const char apply_help[] =
+	"Writes to OUT the image IMAGE with the settings of the release sheet SHEET. The sheet\n"
+	"must be for IMAGE's identity and revision; all of it is judged before a byte is set.\n";
+
+static const char setting_help[] =
+	"Shows the place in the image, the length and the bytes of the setting of LENGTH bytes at\n"
+	"OFFSET in the configuration region, as sheets and `audit --ranges` name it.\n"
+	"\n"
+	"OFFSET and LENGTH are decimal without a leading 0, or hex after 0x.\n";
+
+static const char audit_help[] =
+	"Compares SHIPPED with VENDOR moved to SHIPPED's base and shows that base, how many bytes\n"
+	"differ in settings and elsewhere (strays), how many bits in settings, each byte that\n"
+	"differs (S a setting, X a stray, with its position) and the verdict: explained where\n"
+	"there are no strays. Every difference is listed, however many there are.\n"
+	"\n"
+	"--bytes   each difference also has the byte it should be (VENDOR's, moved) and the byte\n"
+	"          it is, in hex.\n"
+	"--ranges  neighbouring positions of one kind are one line: first and last position,\n"
+	"          length, and where they lie in VENDOR: `region offset N` (a setting), `patch\n"
+	"          word N`, `base word`, `tables`, `region header` or `elsewhere`.\n"
+	"\n"
+	"Exit status: 0 explained, 1 unexplained, 2 refused or failed.\n";
+
+static const char out_help[] =
+	"\n"
+	"OUT may be IMAGE. It is written whole or not at all: a new file takes its name, with\n"
+	"the old one's mode, when every byte is on the disk. A link is followed; a file that\n"
+	"may not be written stays. OUT stands even where standard output then can't be written.\n";
+
+static const char status_help[] =
+	"\n"
+	"Exit status: 0 done, 2 refused or failed.\n";
+
+static const char general_help[] =
+	"\n"
+	"Numbers: hex as 0x00512000, or decimal without a leading 0; they must fit 64 bits. A base,\n"
+	"a revision, a word and bytes are shown in hex, all else in decimal.\n"
+	"\n"
+	"Options may stand before or after the files; `--` ends them. A file named like an option\n"
+	"or `help` is given as ./NAME. A file longer than 16777216 bytes is refused as an image:\n"
+	"with 1, as SHIPPED with 19. A file that can't be read is an error, not an empty image.\n"
+	"\n"
+	"Exit status: 0 done (audit: explained), 1 audit: unexplained, 2 refused, wrong usage or\n"
+	"an input or output error. A refusal prints `refused N` and, on standard error, the file,\n"
+	"the rule and the values that decided; nothing is written to OUT then. The refusals:\n"
+	"\n";
+
+static const struct command commands[] = {
+	{ "read", { "IMAGE" }, WORDS, do_read, "[--words] IMAGE",
+	  "shows what an image's header says", read_help },
+	{ "move", { "IMAGE", "BASE", "OUT" }, 0, do_move, "IMAGE BASE OUT",
+	  "writes the image moved to another base", move_help },
+	{ "apply", { "IMAGE", "SHEET", "OUT" }, 0, do_apply, "IMAGE SHEET OUT",
+	  "writes the image with a release sheet's settings", apply_help },
+	{ "setting", { "IMAGE", "OFFSET", "LENGTH" }, 0, do_setting, "IMAGE OFFSET LENGTH",
+	  "shows one setting", setting_help },
+	{ "audit", { "VENDOR", "SHIPPED" }, BYTES | RANGES, do_audit,
+	  "[--bytes | --ranges] VENDOR SHIPPED",
+	  "lists every difference of a shipped file, and says whether all are settings",
+	  audit_help },
+};
+
+#define COMMANDS (sizeof commands / sizeof commands[0])
+
+/* A subcommand by its name; NULL where there is none. */
+const struct command *find_command(const char *name)
+{
+	for (size_t i = 0; i < COMMANDS; i++)
+		if (strcmp(name, commands[i].name) == 0)
+			return &commands[i];
+	return NULL;
+}
+
+/* One refusal: number, name and rule, in lines of at most 87 characters. */
+static void show_refusal(uint32_t number)
+{
+	const char *rest = pajurenda_sentence(number);
+	printf("%4d  %-9s  ", (int)number, pajurenda_name(number));
+	while (strlen(rest) > LINE) {
+		size_t end = LINE;
+		while (end > 0 && rest[end] != ' ')
+			end--;
+		printf("%.*s\n%17s", (int)end, rest, "");
+		rest += end + 1;
+	}
+	puts(rest);
+}
+
+/* The help on all of it, with the names of the refusals. */
+static void show_general(void)
+{
+	for (size_t i = 0; i < COMMANDS; i++)
+		printf("%s pajurenda %s %s\n", i == 0 ? "usage:" : "      ", commands[i].name,
+		       commands[i].usage);
+	puts("       pajurenda help [COMMAND]\n       pajurenda --help | --version\n");
+	for (size_t i = 0; i < COMMANDS; i++)
+		printf("%-8s %s\n", commands[i].name, commands[i].brief);
+	puts("help     shows this, or the help of one command (also: COMMAND --help)");
+	fputs(general_help, stdout);
+	for (uint32_t i = PAJURENDA_LENGTH; i <= PAJURENDA_ROOM; i++)
+		show_refusal(i);
+	puts("\nThe audit here makes its list as long as it must be, so 20 is for other callers.");
+}
+
+/* The help on one subcommand, or on all where it is NULL. */
+enum status show_help(const struct command *command)
+{
+	if (command == NULL) {
+		show_general();
+		return FINE;
+	}
+	printf("usage: pajurenda %s %s\n\n%s", command->name, command->usage, command->help);
+	if (command->run == do_move || command->run == do_apply)
+		fputs(out_help, stdout);
+	if (command->run != do_audit)
+		fputs(status_help, stdout);
+	return FINE;
+}
+
+/* The project's version, and what proved it. */
+enum status show_version(void)
+{
+	puts("pajurenda " PAJURENDA_VERSION);
+	puts("proved with " PAJURENDA_KIT);
+	return FINE;
+}

@@ -1,0 +1,50 @@
+/* The command for people: read, move, apply, setting and audit over the library. */
+#define _XOPEN_SOURCE 700
+
+#include <errno.h>
+#include <fcntl.h>
+#include <signal.h>
+#include <stdbool.h>
+#include <stdio.h>
+#include <unistd.h>
+
+#include "messages.h"
+#include "options.h"
+
+/* A closed standard file never becomes one of ours: writing to it then fails and is told. */
+static void hold_standard_files(void)
+{
+	int opened = 0;
+	while (opened >= 0 && opened <= 2)
+		opened = open("/dev/null", O_RDONLY);
+	if (opened > 2)
+		close(opened);
+}
+
+/* A full pipe or file size limit gives an error to report, not a sudden end. */
+static void ignore_signals(void)
+{
+	signal(SIGPIPE, SIG_IGN);
+	signal(SIGXFSZ, SIG_IGN);
+}
+
+/* Standard output to its end; 0 or the error's number, an early one being lost to EIO. */
+static int close_output(void)
+{
+	const bool lost = ferror(stdout) != 0;
+	if (fclose(stdout) != 0)
+		return errno;
+	return lost ? EIO : 0;
+}
+
+/* The exit status; unwritten standard output is an error. */
+int main(int count, char **word)
+{
+	static char line[4096];
+	hold_standard_files();
+	ignore_signals();
+	setvbuf(stderr, line, _IOLBF, sizeof line);
+	const enum status status = run_command(count - 1, word + 1);
+	const int reason = close_output();
+	return (int)(reason == 0 ? status : fail_at("standard output", reason));
+}

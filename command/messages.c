@@ -1,0 +1,44 @@
+/* Errors on standard error. */
+#include "messages.h"
+
+#include <stdio.h>
+#include <string.h>
+
+/* A name as it was given, a control character as `?`: no file's name makes a line of its own. */
+void say_name(const char *name)
+{
+	for (; *name != 0; name++) {
+		const unsigned char c = (unsigned char)*name;
+		fputc(c < 32 || c == 127 ? '?' : c, stderr);
+	}
+}
+
+/* An input or output error, with the system's reason. */
+enum status fail_at(const char *name, int reason)
+{
+	fputs("pajurenda: ", stderr);
+	say_name(name);
+	fprintf(stderr, ": %s\n", reason == NOT_REGULAR ? "Not a regular file" : strerror(reason));
+	return FAILED;
+}
+
+/* An answer that the header does not allow. */
+enum status fail_answer(void)
+{
+	fputs("pajurenda: the library's answer is not one of its header's\n", stderr);
+	return FAILED;
+}
+
+/* Wrong usage, of a subcommand where one is named; the word is shown between the two texts. */
+enum status fail_usage(const char *command, const char *before, const char *word,
+		       const char *after)
+{
+	fputs("pajurenda: ", stderr);
+	if (command != NULL)
+		fprintf(stderr, "%s: ", command);
+	fputs(before, stderr);
+	say_name(word);
+	fprintf(stderr, "%s (see pajurenda %s%s--help)\n", after, command == NULL ? "" : command,
+		command == NULL ? "" : " ");
+	return FAILED;
+}

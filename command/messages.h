@@ -1,0 +1,16 @@
+/* Errors on standard error, and names shown so that they can't be taken for anything else. */
+#ifndef COMMAND_MESSAGES_H
+#define COMMAND_MESSAGES_H
+
+#include "command.h"
+
+/* A reason of our own beside the system's: OUT is a device or the like. */
+#define NOT_REGULAR (-1)
+
+void say_name(const char *name);
+enum status fail_at(const char *name, int reason);
+enum status fail_answer(void);
+enum status fail_usage(const char *command, const char *before, const char *word,
+		       const char *after);
+
+#endif

@@ -1,0 +1,88 @@
+/*
+ * Numbers as people write them: 0x and hex digits, or plain decimal. What could be read in two ways
+ * is refused with a sentence that says how to write it, so that no base is taken for another.
+ */
+#include "numbers.h"
+
+#include <stdio.h>
+#include <string.h>
+
+#include "messages.h"
+
+#define DECIMAL "0123456789"
+#define HEX DECIMAL "abcdefABCDEF"
+
+/* Every character of a text is one of these, and there is one. */
+static bool all_of(const char *text, const char *these)
+{
+	return *text != 0 && text[strspn(text, these)] == 0;
+}
+
+/* 0x and hex digits. */
+static bool is_hex(const char *text)
+{
+	return text[0] == '0' && text[1] == 'x' && all_of(text + 2, HEX);
+}
+
+/* Decimal digits; 0 first only where it is the whole number. */
+static bool is_plain(const char *text)
+{
+	return all_of(text, DECIMAL) && (text[0] != '0' || text[1] == 0);
+}
+
+/* The value of a hex digit. */
+static unsigned digit_of(char c)
+{
+	static const char digits[] = "0123456789abcdef0123456789ABCDEF";
+	return (unsigned)(strchr(digits, c) - digits) % 16;
+}
+
+/* The digits' value; false where it does not fit 64 bits. */
+static bool evaluate(const char *digits, unsigned radix, uint64_t *value)
+{
+	*value = 0;
+	for (; *digits != 0; digits++) {
+		const unsigned digit = digit_of(*digits);
+		if (*value > (UINT64_MAX - digit) / radix)
+			return false;
+		*value = *value * radix + digit;
+	}
+	return true;
+}
+
+/* How a text that is no number here would be written: two ways, one way, or in general. */
+static void say_how(const char *text)
+{
+	const bool capital = text[0] == '0' && text[1] == 'X' && all_of(text + 2, HEX);
+	const char *decimal = text + strspn(text, "0");
+
+	if (all_of(text, DECIMAL))
+		fprintf(stderr, "starts with 0: write 0x%s for hex or %s for decimal", text,
+			*decimal == 0 ? "0" : decimal);
+	else if (all_of(text, HEX))
+		fprintf(stderr, "has no 0x: write 0x%s for hex", text);
+	else if (capital)
+		fprintf(stderr, "has a capital X: write 0x%s for hex", text + 2);
+	else
+		fputs("is not a number: write hex as 0x00512000, decimal without a leading 0",
+		      stderr);
+}
+
+/* A number of 64 bits from a word of the command line; false after a message. */
+bool take_number(const char *command, const char *name, const char *text, uint64_t *value)
+{
+	const bool hex = is_hex(text);
+	const bool number = hex || is_plain(text);
+
+	if (number && evaluate(hex ? text + 2 : text, hex ? 16 : 10, value))
+		return true;
+	fprintf(stderr, "pajurenda: %s: %s \"", command, name);
+	say_name(text);
+	fputs("\" ", stderr);
+	if (number)
+		fputs("does not fit 64 bits", stderr);
+	else
+		say_how(text);
+	fputc('\n', stderr);
+	return false;
+}

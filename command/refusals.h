@@ -1,0 +1,36 @@
+/* Refusals in words: the number for scripts, the rule and the values that decided for people. */
+#ifndef COMMAND_REFUSALS_H
+#define COMMAND_REFUSALS_H
+
+#include "command.h"
+
+/* A file as the user named it, with its bytes. */
+struct named {
+	const char *name;
+	struct bytes bytes;
+};
+
+/* A setting that was asked for; the index is that of the sheet's entry. */
+struct asked {
+	uint64_t index;
+	uint64_t offset;
+	uint64_t length;
+};
+
+void say_length(const struct bytes *file);
+void say_bytes(const struct bytes *file, uint64_t at, size_t count);
+void begin_refusal(uint32_t number, const char *name);
+void say_rule(uint32_t number);
+enum status end_refusal(void);
+
+enum status refuse_image(uint32_t number, uint64_t index, const struct named *image);
+enum status refuse_sheet(const struct named *sheet);
+enum status refuse_identity(const struct named *sheet, const struct named *image,
+			    const uint8_t *reading);
+enum status refuse_entry(const struct named *sheet, const struct asked *asked, uint64_t size);
+enum status refuse_setting(const struct named *image, const struct asked *asked, uint64_t size);
+enum status refuse_new_base(const struct named *image, uint64_t base);
+enum status refuse_shipped_base(const struct named *shipped, uint64_t position);
+enum status refuse_pair(const struct named *vendor, const struct named *shipped);
+
+#endif

@@ -1,0 +1,245 @@
+/* Refusals 1 to 14 in words: what stands in the image where the rule looks. */
+#include <inttypes.h>
+#include <stdio.h>
+
+#include "letters.h"
+#include "messages.h"
+#include "pajurenda.h"
+#include "refusals.h"
+
+/* A number with its letter or name before it. */
+static void say(const char *name, uint64_t value)
+{
+	fprintf(stderr, "%s %" PRIu64, name, value);
+}
+
+/* 1: how long the file is. */
+static void say_one(const struct letters *w, uint64_t index)
+{
+	(void)index;
+	fputs("the file has ", stderr);
+	say_length(w->image);
+}
+
+/* The 16-bit words of the volume's header added up, modulo 65,536. */
+static unsigned sum_of_words(const struct letters *w)
+{
+	unsigned sum = 0;
+	for (uint64_t at = 0; at < w->h; at += 2)
+		sum += (unsigned)number_at(w->image, at, 2);
+	return sum & 0xFFFF;
+}
+
+/* 2: the mark, the lengths, the sum, the extended header. */
+static void say_volume(const struct letters *w, uint64_t index)
+{
+	(void)index;
+	fputs("mark ", stderr);
+	say_bytes(w->image, 40, 4);
+	say(", h", w->h);
+	say(", V", w->V);
+	if (w->h % 2 == 0 && has_bytes(w->image, 0, w->h))
+		fprintf(stderr, ", sum 0x%04X", sum_of_words(w));
+	say(", x", w->x);
+	if (w->x != 0 && has_bytes(w->image, w->x + 16, 4))
+		say(", e", w->e);
+	fputs(", the file has ", stderr);
+	say_length(w->image);
+}
+
+/* A GUID of 16 stored bytes, in the form people write it. */
+static void say_guid(const struct bytes *file, uint64_t at)
+{
+	fprintf(stderr, "%08" PRIX64 "-%04" PRIX64 "-%04" PRIX64 "-", number_at(file, at, 4),
+		number_at(file, at + 4, 2), number_at(file, at + 6, 2));
+	for (uint64_t i = 8; i < 16; i++)
+		fprintf(stderr, "%s%02" PRIX64, i == 10 ? "-" : "", number_at(file, at + i, 1));
+}
+
+/* The file header's bytes added up modulo 256, the two that don't count taken as 0. */
+static unsigned sum_of_bytes(const struct letters *w)
+{
+	unsigned sum = 0;
+	for (uint64_t i = 0; i < 24; i++)
+		sum += i == 17 || i == 23 ? 0 : (unsigned)number_at(w->image, w->f + i, 1);
+	return sum & 0xFF;
+}
+
+/* 3: where the file is to stand, its name, attributes, sum and size. */
+static void say_file(const struct letters *w, uint64_t index)
+{
+	(void)index;
+	say("f", w->f);
+	say(", V", w->V);
+	if (!has_bytes(w->image, w->f, 24)) {
+		fputs(", no 24 bytes in the file there", stderr);
+		return;
+	}
+	fputs(", name ", stderr);
+	say_guid(w->image, w->f);
+	fprintf(stderr, ", attributes 0x%02" PRIX64, number_at(w->image, w->f + 19, 1));
+	fprintf(stderr, ", sum 0x%02X", sum_of_bytes(w));
+	say(", s", w->s);
+}
+
+/* 4: the section's type and size. */
+static void say_section(const struct letters *w, uint64_t index)
+{
+	(void)index;
+	fprintf(stderr, "type 0x%02" PRIX64, number_at(w->image, w->f + 27, 1));
+	say(", size", w->section);
+	say(", s", w->s);
+}
+
+/* 5: the header's mark, revision and length. */
+static void say_header(const struct letters *w, uint64_t index)
+{
+	(void)index;
+	fputs("mark ", stderr);
+	say_bytes(w->image, w->H, 4);
+	say(" at H", w->H);
+	say(", revision", number_at(w->image, w->H + 11, 1));
+	say(", L", w->L);
+	say(", section size", w->section);
+}
+
+/* 6: both lengths; the rule needs no other words. */
+static void say_size(const struct letters *w, uint64_t index)
+{
+	(void)index;
+	fprintf(stderr, "header says %" PRIu64 " bytes, the file has %zu",
+		number_at(w->image, w->H + 24, 4), w->image->length);
+}
+
+/* 7: the component's number. */
+static void say_component(const struct letters *w, uint64_t index)
+{
+	(void)index;
+	say("it is", number_at(w->image, w->H + 34, 2) >> 12);
+}
+
+/* 8: the base and the length it is for. */
+static void say_base(const struct letters *w, uint64_t index)
+{
+	(void)index;
+	fprintf(stderr, "0x%08" PRIX64 " for %zu bytes", number_at(w->image, w->H + 28, 4),
+		w->image->length);
+}
+
+/* 9: the extended header where one stands, then the table, and where the section ends. */
+static void say_table(const struct letters *w, uint64_t index)
+{
+	(void)index;
+	if (stands(w->image, w->g, "FSPE")) {
+		say("FSPE at", w->g);
+		say(" of length", number_at(w->image, w->g + 4, 4));
+		fputs(", ", stderr);
+	}
+	fputs("mark ", stderr);
+	say_bytes(w->image, w->p, 4);
+	say(" at p", w->p);
+	if (has_bytes(w->image, w->p, 12)) {
+		say(", revision", number_at(w->image, w->p + 6, 1));
+		say(", n", w->n);
+		say(", E", w->E);
+	}
+	say(", the section ends at", w->f + 24 + w->section);
+}
+
+/* 10: the region's place and size, and what it must keep between. */
+static void say_config(const struct letters *w, uint64_t index)
+{
+	(void)index;
+	say("c", w->c);
+	say(", z", w->z);
+	say(", E", w->E);
+	fputs(", the file has ", stderr);
+	say_length(w->image);
+}
+
+/* 11: the region's mark and the component's letter. */
+static void say_upd(const struct letters *w, uint64_t index)
+{
+	const uint64_t component = number_at(w->image, w->H + 34, 2) >> 12;
+	(void)index;
+	say_bytes(w->image, w->c + 6, 2);
+	say(" at", w->c + 6);
+	fprintf(stderr, ", component %c", component <= 4 ? "?TMSI"[component] : '?');
+}
+
+/* 12 to 14: the entry, and where it points. */
+static void say_entry(const struct letters *w, uint64_t index)
+{
+	const uint64_t entry = entry_at(w, index);
+	say("entry", index);
+	fprintf(stderr, " (counted from 0) is 0x%08" PRIX64 " and points to %" PRId64, entry,
+		where_it_points(entry, w->image->length));
+}
+
+/* 12: the entry's type. */
+static void say_type(const struct letters *w, uint64_t index)
+{
+	say_entry(w, index);
+	say(", its type is", entry_at(w, index) >> 24 & 15);
+}
+
+/* 13: where the image ends. */
+static void say_place(const struct letters *w, uint64_t index)
+{
+	say_entry(w, index);
+	fprintf(stderr, ", the image has %zu bytes", w->image->length);
+}
+
+/* The earlier entry that points nearest to a place; the index itself where there is none. */
+static uint64_t nearest_before(const struct letters *w, uint64_t index)
+{
+	const int64_t place = where_it_points(entry_at(w, index), w->image->length);
+	uint64_t nearest = index;
+	int64_t least = INT64_MAX;
+	for (uint64_t i = 0; i < index; i++) {
+		const int64_t far = where_it_points(entry_at(w, i), w->image->length) - place;
+		if ((far < 0 ? -far : far) < least) {
+			least = far < 0 ? -far : far;
+			nearest = i;
+		}
+	}
+	return nearest;
+}
+
+/* 14: what it must be clear of. */
+static void say_overlap(const struct letters *w, uint64_t index)
+{
+	const uint64_t nearest = nearest_before(w, index);
+	say_entry(w, index);
+	say(", E", w->E);
+	say(", c", w->c);
+	say(", z", w->z);
+	if (nearest == index)
+		return;
+	say(", nearest earlier entry", nearest);
+	fprintf(stderr, " at %" PRId64, where_it_points(entry_at(w, nearest), w->image->length));
+}
+
+/* The values of each rule. */
+static void (*const say_values[])(const struct letters *w, uint64_t index) = {
+	[PAJURENDA_LENGTH] = say_one,       [PAJURENDA_VOLUME] = say_volume,
+	[PAJURENDA_FILE] = say_file,        [PAJURENDA_SECTION] = say_section,
+	[PAJURENDA_HEADER] = say_header,    [PAJURENDA_SIZE] = say_size,
+	[PAJURENDA_COMPONENT] = say_component, [PAJURENDA_BASE] = say_base,
+	[PAJURENDA_TABLE] = say_table,      [PAJURENDA_CONFIG] = say_config,
+	[PAJURENDA_UPD] = say_upd,          [PAJURENDA_TYPE] = say_type,
+	[PAJURENDA_PLACE] = say_place,      [PAJURENDA_OVERLAP] = say_overlap,
+};
+
+/* An image's own refusal, 1 to 14. */
+enum status refuse_image(uint32_t number, uint64_t index, const struct named *image)
+{
+	const struct letters w = letters_of(&image->bytes);
+	if (number < PAJURENDA_LENGTH || number > PAJURENDA_OVERLAP)
+		return fail_answer();
+	begin_refusal(number, image->name);
+	if (number != PAJURENDA_SIZE)
+		say_rule(number);
+	say_values[number](&w, index);
+	return end_refusal();
+}

@@ -1,0 +1,34 @@
+/* Bytes shown as text or in hex. */
+#include "show.h"
+
+/* All of these bytes are printable. */
+bool is_printable(const uint8_t *bytes, size_t count)
+{
+	for (size_t i = 0; i < count; i++)
+		if (bytes[i] < 32 || bytes[i] > 126)
+			return false;
+	return true;
+}
+
+/* Printable bytes as text. */
+void show_text(FILE *to, const uint8_t *bytes, size_t count)
+{
+	fprintf(to, "\"%.*s\"", (int)count, (const char *)bytes);
+}
+
+/* Bytes in their order, two digits each. */
+void show_hex(FILE *to, const uint8_t *bytes, size_t count)
+{
+	for (size_t i = 0; i < count; i++)
+		fprintf(to, "%02X", (unsigned)bytes[i]);
+}
+
+/* The eight bytes of an identity, and as text where they are printable. */
+void show_identity(FILE *to, const uint8_t *identity)
+{
+	show_hex(to, identity, 8);
+	if (!is_printable(identity, 8))
+		return;
+	fputc(' ', to);
+	show_text(to, identity, 8);
+}

@@ -1,0 +1,15 @@
+/* Bytes shown as text or in hex. */
+#ifndef COMMAND_SHOW_H
+#define COMMAND_SHOW_H
+
+#include <stdbool.h>
+#include <stddef.h>
+#include <stdint.h>
+#include <stdio.h>
+
+bool is_printable(const uint8_t *bytes, size_t count);
+void show_text(FILE *to, const uint8_t *bytes, size_t count);
+void show_hex(FILE *to, const uint8_t *bytes, size_t count);
+void show_identity(FILE *to, const uint8_t *identity);
+
+#endif
