@@ -9,7 +9,7 @@
 enum status { FINE = 0, UNEXPLAINED = 1, FAILED = 2 };
 
 /* The options, as bits. */
-enum option { HELP = 1, VERSION = 2, BYTES = 4, RANGES = 8, WORDS = 16 };
+enum option { HELP = 1, VERSION = 2, BYTES = 4, RANGES = 8, WORDS = 16, JSON = 32 };
 
 /* A file's bytes in memory; never at NULL once loaded, even where empty. */
 struct bytes {
@@ -33,5 +33,6 @@ enum status do_move(char **word, unsigned options);
 enum status do_apply(char **word, unsigned options);
 enum status do_setting(char **word, unsigned options);
 enum status do_audit(char **word, unsigned options);
+enum status do_handoff(char **word, unsigned options);
 
 #endif

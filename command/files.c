@@ -26,10 +26,10 @@ struct target {
 
 /* ---- input ---- */
 
-/* Twice the room, at most MOST_READ; false where there is no memory. */
-static bool grow(struct bytes *file, size_t *room)
+/* Twice the room, at most this; false where there is no memory. */
+static bool grow(struct bytes *file, size_t *room, size_t most)
 {
-	const size_t more = *room == 0 ? 65536 : *room > MOST_READ / 2 ? MOST_READ : *room * 2;
+	const size_t more = *room == 0 ? 65536 : *room > most / 2 ? most : *room * 2;
 	uint8_t *at = realloc(file->at, more);
 	if (at == NULL)
 		return false;
@@ -38,12 +38,15 @@ static bool grow(struct bytes *file, size_t *room)
 	return true;
 }
 
-/* All bytes up to MOST_READ; 0 or the error's number. */
-static int read_all(int from, struct bytes *file)
+/* All bytes up to the most, or until a full room of them is enough; 0 or the error's number. */
+static int read_all(int from, struct bytes *file, size_t most,
+		    bool (*enough)(const struct bytes *file))
 {
 	size_t room = 0;
-	while (file->length < MOST_READ) {
-		if (file->length == room && !grow(file, &room))
+	while (file->length < most) {
+		if (file->length == room && room != 0 && enough != NULL && enough(file))
+			break;
+		if (file->length == room && !grow(file, &room, most))
 			return ENOMEM;
 		const ssize_t got = read(from, file->at + file->length, room - file->length);
 		if (got == 0)
@@ -55,8 +58,9 @@ static int read_all(int from, struct bytes *file)
 	return 0;
 }
 
-/* A whole file in memory; false after a message. */
-bool load(const char *name, struct bytes *file)
+/* A file in memory, as much of it as is wanted; false after a message. */
+bool load_until(const char *name, struct bytes *file, size_t most,
+		bool (*enough)(const struct bytes *file))
 {
 	*file = (struct bytes){ .at = NULL };
 	const int from = open(name, O_RDONLY | O_CLOEXEC | O_NOCTTY);
@@ -64,7 +68,7 @@ bool load(const char *name, struct bytes *file)
 		fail_at(name, errno);
 		return false;
 	}
-	const int reason = read_all(from, file);
+	const int reason = read_all(from, file, most, enough);
 	close(from);
 	if (reason == 0)
 		return true;
@@ -72,6 +76,12 @@ bool load(const char *name, struct bytes *file)
 	file->at = NULL;
 	fail_at(name, reason);
 	return false;
+}
+
+/* An image or a sheet, whole or too long. */
+bool load(const char *name, struct bytes *file)
+{
+	return load_until(name, file, MOST_READ, NULL);
 }
 
 /* ---- output ---- */

@@ -7,6 +7,8 @@
 #include "command.h"
 
 bool load(const char *name, struct bytes *file);
+bool load_until(const char *name, struct bytes *file, size_t most,
+		bool (*enough)(const struct bytes *file));
 bool save(const char *name, const struct bytes *file);
 
 #endif

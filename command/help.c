@@ -53,6 +53,21 @@ static const char audit_help[] =
 	"\n"
 	"Exit status: 0 explained, 1 unexplained, 2 refused or failed.\n";
 
+static const char handoff_help[] =
+	"Shows the hand-off blocks that firmware left in memory, from the first byte of DUMP up to\n"
+	"the end block: place, type (by the PI specification's name), length, and what a block of\n"
+	"its kind has: a resource its type, attributes, start, size, last byte and owner, a GUID\n"
+	"block its name and its data's place and length. Other types, and a later HANDOFF, have\n"
+	"`unknown kind`. Places count from DUMP's first byte. Bytes after the end block don't\n"
+	"count. Of a refused list the blocks before the one at fault are shown, then `refused N`.\n"
+	"\n"
+	"--json  one JSON document: `blocks`, in order, then `number` (0, or the refusal's) and its\n"
+	"        `name`, `place` (of the end block, or the fault) and `count` (of the blocks).\n"
+	"        Addresses, sizes and attributes are text (\"0x0009FC00\"), GUIDs too; `last` of an\n"
+	"        empty resource is null.\n"
+	"\n"
+	"The list must end in the first 67108864 bytes.\n";
+
 static const char out_help[] =
 	"\n"
 	"OUT may be IMAGE. It is written whole or not at all: a new file takes its name, with\n"
@@ -66,7 +81,7 @@ static const char status_help[] =
 static const char general_help[] =
 	"\n"
 	"Numbers: hex as 0x00512000, or decimal without a leading 0; they must fit 64 bits. A base,\n"
-	"a revision, a word and bytes are shown in hex, all else in decimal.\n"
+	"an address, a revision, a word and bytes are shown in hex, all else in decimal.\n"
 	"\n"
 	"Options may stand before or after the files; `--` ends them. A file named like an option\n"
 	"or `help` is given as ./NAME. A file longer than 16777216 bytes is refused as an image:\n"
@@ -90,6 +105,8 @@ static const struct command commands[] = {
 	  "[--bytes | --ranges] VENDOR SHIPPED",
 	  "lists every difference of a shipped file, and says whether all are settings",
 	  audit_help },
+	{ "handoff", { "DUMP" }, JSON, do_handoff, "[--json] DUMP",
+	  "shows the hand-off blocks that firmware left", handoff_help },
 };
 
 #define COMMANDS (sizeof commands / sizeof commands[0])
@@ -130,6 +147,8 @@ static void show_general(void)
 	puts("help     shows this, or the help of one command (also: COMMAND --help)");
 	fputs(general_help, stdout);
 	for (uint32_t i = PAJURENDA_LENGTH; i <= PAJURENDA_ROOM; i++)
+		show_refusal(i);
+	for (uint32_t i = PAJURENDA_BLOCK; i <= PAJURENDA_KIND; i++)
 		show_refusal(i);
 	puts("\nThe audit here makes its list as long as it must be, so 20 is for other callers.");
 }

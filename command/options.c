@@ -24,6 +24,7 @@ static const struct {
 } option_names[] = {
 	{ "-h", HELP },       { "--help", HELP },     { "--version", VERSION },
 	{ "--bytes", BYTES }, { "--ranges", RANGES }, { "--words", WORDS },
+	{ "--json", JSON },
 };
 
 #define OPTION_NAMES (sizeof option_names / sizeof option_names[0])

@@ -6,7 +6,7 @@ _pajurenda_word()
 	case $1:$2 in
 	:*) echo commands ;;
 	help:0) echo topics ;;
-	read:0 | move:[02] | apply:[012] | setting:0 | audit:[01]) echo files ;;
+	read:0 | move:[02] | apply:[012] | setting:0 | audit:[01] | handoff:0) echo files ;;
 	*) echo nothing ;;
 	esac
 }
@@ -18,6 +18,7 @@ _pajurenda_options()
 	'') echo '--help --version' ;;
 	read) echo '--words --help' ;;
 	audit) echo '--bytes --ranges --help' ;;
+	handoff) echo '--json --help' ;;
 	*) echo '--help' ;;
 	esac
 }
@@ -37,8 +38,8 @@ _pajurenda()
 		offered=$(_pajurenda_options "$command")
 	else
 		case $(_pajurenda_word "$command" "$words") in
-		commands) offered='read move apply setting audit help' ;;
-		topics) offered='read move apply setting audit' ;;
+		commands) offered='read move apply setting audit handoff help' ;;
+		topics) offered='read move apply setting audit handoff' ;;
 		files)
 			compopt -o filenames 2>/dev/null
 			mapfile -t COMPREPLY < <(compgen -f -- "$current")

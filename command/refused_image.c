@@ -6,6 +6,7 @@
 #include "messages.h"
 #include "pajurenda.h"
 #include "refusals.h"
+#include "show.h"
 
 /* A number with its letter or name before it. */
 static void say(const char *name, uint64_t value)
@@ -47,15 +48,6 @@ static void say_volume(const struct letters *w, uint64_t index)
 	say_length(w->image);
 }
 
-/* A GUID of 16 stored bytes, in the form people write it. */
-static void say_guid(const struct bytes *file, uint64_t at)
-{
-	fprintf(stderr, "%08" PRIX64 "-%04" PRIX64 "-%04" PRIX64 "-", number_at(file, at, 4),
-		number_at(file, at + 4, 2), number_at(file, at + 6, 2));
-	for (uint64_t i = 8; i < 16; i++)
-		fprintf(stderr, "%s%02" PRIX64, i == 10 ? "-" : "", number_at(file, at + i, 1));
-}
-
 /* The file header's bytes added up modulo 256, the two that don't count taken as 0. */
 static unsigned sum_of_bytes(const struct letters *w)
 {
@@ -76,7 +68,7 @@ static void say_file(const struct letters *w, uint64_t index)
 		return;
 	}
 	fputs(", name ", stderr);
-	say_guid(w->image, w->f);
+	show_guid(stderr, w->image->at + w->f);
 	fprintf(stderr, ", attributes 0x%02" PRIX64, number_at(w->image, w->f + 19, 1));
 	fprintf(stderr, ", sum 0x%02X", sum_of_bytes(w));
 	say(", s", w->s);

@@ -1,6 +1,10 @@
 /* Bytes shown as text or in hex. */
 #include "show.h"
 
+#include <inttypes.h>
+
+#include "pajurenda.h"
+
 /* All of these bytes are printable. */
 bool is_printable(const uint8_t *bytes, size_t count)
 {
@@ -31,4 +35,14 @@ void show_identity(FILE *to, const uint8_t *identity)
 		return;
 	fputc(' ', to);
 	show_text(to, identity, 8);
+}
+
+/* A GUID of 16 stored bytes, in the form people write it. */
+void show_guid(FILE *to, const uint8_t *guid)
+{
+	fprintf(to, "%08" PRIX64 "-%04" PRIX64 "-%04" PRIX64 "-", pajurenda_number(guid, 4),
+		pajurenda_number(guid + 4, 2), pajurenda_number(guid + 6, 2));
+	show_hex(to, guid + 8, 2);
+	fputc('-', to);
+	show_hex(to, guid + 10, 6);
 }

@@ -11,5 +11,6 @@ bool is_printable(const uint8_t *bytes, size_t count);
 void show_text(FILE *to, const uint8_t *bytes, size_t count);
 void show_hex(FILE *to, const uint8_t *bytes, size_t count);
 void show_identity(FILE *to, const uint8_t *identity);
+void show_guid(FILE *to, const uint8_t *guid);
 
 #endif

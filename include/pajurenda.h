@@ -1,5 +1,6 @@
 /*
- * pajurenda: reads, moves, sets and audits one firmware support image (FSP) in lent memory.
+ * pajurenda: reads, moves, sets and audits one firmware support image (FSP) in lent memory, and
+ * reads the list of hand-off blocks that firmware leaves after a boot.
  *
  * A slice passes as a pointer and then its length in bytes. No pointer may be null, even where the
  * length is 0. A buffer that is written (an image to move or to set, a list of places, an answer)
@@ -8,13 +9,15 @@
  *
  * Each call writes its answer into the caller's answer buffer: 64-bit little-endian numbers at the
  * offsets named below, from the buffer's first byte. Bytes after the answer are kept. The call
- * returns the answer's number: 0 where accepted, 1 to 20 where refused. Where the answer buffer is
- * shorter than the answer, the call returns PAJURENDA_SHORT and nothing at all is written anywhere.
+ * returns the answer's number: 0 where accepted, else that of the refusal (images 1 to 20, hand-off
+ * blocks 30 to 33). Where the answer buffer is shorter than the answer, the call returns
+ * PAJURENDA_SHORT and nothing at all is written anywhere.
  *
  * A refused call changes no byte of an image and no byte of a list.
  *
  * Small inline functions at the end read a field of an answer and a place of the audit's list, and
- * give each number its name and its rule in a sentence. C99 and later, and C++.
+ * give each number its name and its rule in a sentence, and each kind of block its name. C99 and
+ * later, and C++.
  */
 #ifndef PAJURENDA_H
 #define PAJURENDA_H
@@ -55,6 +58,10 @@ enum {
 	PAJURENDA_NEWBASE = 18,   /* the new base isn't legal */
 	PAJURENDA_PAIR = 19,      /* the two images' lengths differ */
 	PAJURENDA_ROOM = 20,      /* more differences than places */
+	PAJURENDA_BLOCK = 30,     /* a hand-off block's header or length; after 32 */
+	PAJURENDA_FIRST = 31,     /* the first block isn't the handoff block of 56 bytes */
+	PAJURENDA_NOTHING = 32,   /* no byte is left where a block should stand; before 30 */
+	PAJURENDA_KIND = 33,      /* a resource, GUID or end block of a length it can't have */
 	PAJURENDA_SHORT = 100     /* the answer buffer is too short; nothing was written */
 };
 
@@ -117,6 +124,44 @@ enum {
 	PAJURENDA_AUDIT_BYTES = 56
 };
 
+/*
+ * The answer of pajurenda_handoff. A place counts from the buffer's first byte. Where refused, next
+ * is the cursor that was given, and all else after the number is 0. So is what a kind doesn't have.
+ */
+enum {
+	PAJURENDA_HANDOFF_NUMBER = 0,
+	PAJURENDA_HANDOFF_NEXT = 8,    /* the next cursor; the end block's is its own place */
+	PAJURENDA_HANDOFF_PLACE = 16,  /* where the block stands */
+	PAJURENDA_HANDOFF_TYPE = 24,   /* its type, 16 bits */
+	PAJURENDA_HANDOFF_LENGTH = 32, /* its length, the 8 bytes of its header included */
+	PAJURENDA_HANDOFF_KIND = 40,   /* PAJURENDA_BLOCK_HANDOFF and so on */
+	PAJURENDA_HANDOFF_RESOURCE = 48,    /* a resource: its type, 32 bits */
+	PAJURENDA_HANDOFF_ATTRIBUTES = 56,  /* a resource: its attributes, 32 bits */
+	PAJURENDA_HANDOFF_START = 64,       /* a resource: its first address */
+	PAJURENDA_HANDOFF_SIZE = 72,        /* a resource: how many bytes or ports from there */
+	PAJURENDA_HANDOFF_DATA_PLACE = 48,  /* a GUID block: where its data stands */
+	PAJURENDA_HANDOFF_DATA_LENGTH = 56, /* a GUID block: how long its data is, perhaps 0 */
+	PAJURENDA_HANDOFF_BYTES = 80
+};
+
+/* The kinds of hand-off blocks. */
+enum {
+	PAJURENDA_BLOCK_NOTHING = 0,  /* refused */
+	PAJURENDA_BLOCK_HANDOFF = 1,  /* the first block, of type 1 */
+	PAJURENDA_BLOCK_RESOURCE = 2, /* type 3 */
+	PAJURENDA_BLOCK_GUID = 3,     /* type 4; its name is the 16 bytes before its data */
+	PAJURENDA_BLOCK_UNKNOWN = 4,  /* any other type, and a later type 1 */
+	PAJURENDA_BLOCK_END = 5       /* type 0xFFFF */
+};
+
+/* The answer of pajurenda_handoffs. */
+enum {
+	PAJURENDA_HANDOFFS_NUMBER = 0,
+	PAJURENDA_HANDOFFS_PLACE = 8,  /* where the end block stands, or the one at fault should */
+	PAJURENDA_HANDOFFS_COUNT = 16, /* how many blocks, with the end block; or before the fault */
+	PAJURENDA_HANDOFFS_BYTES = 24
+};
+
 /* Reads an image: number 0 and its facts, or refusal 1 to 14. */
 uint32_t pajurenda_read(const uint8_t *image, size_t length,
 			uint8_t *answer, size_t answer_length);
@@ -152,7 +197,22 @@ uint32_t pajurenda_audit(const uint8_t *vendor, size_t vendor_length,
 			 uint8_t *places, size_t places_length,
 			 uint8_t *answer, size_t answer_length);
 
-/* ---- for the caller's ease: nothing below judges an image ---- */
+/*
+ * One step through a list of hand-off blocks: the block at the cursor, and the next cursor. Any
+ * number may be the cursor; a list starts at 0 and is followed by each answer's next, up to the end
+ * block. Refusals in this order: 32, 30, 31 (at cursor 0 alone), 33.
+ */
+uint32_t pajurenda_handoff(const uint8_t *buffer, size_t length, uint64_t cursor,
+			   uint8_t *answer, size_t answer_length);
+
+/*
+ * The whole list by the same steps, from 0 on: where its end block stands and how many blocks there
+ * are; or the refusal of the first block at fault, and where. No byte after the end block counts.
+ */
+uint32_t pajurenda_handoffs(const uint8_t *buffer, size_t length,
+			    uint8_t *answer, size_t answer_length);
+
+/* ---- for the caller's ease: nothing below judges an image or a list ---- */
 
 /* A little-endian number of at most eight bytes. */
 static inline uint64_t pajurenda_number(const uint8_t *bytes, size_t width)
@@ -201,6 +261,31 @@ static inline uint32_t pajurenda_position(uint32_t place)
 	return pajurenda_is_stray(place) ? place - PAJURENDA_STRAY : place;
 }
 
+/* The next cursor in the answer of pajurenda_handoff. */
+static inline uint64_t pajurenda_next(const uint8_t *answer)
+{
+	return pajurenda_field(answer, PAJURENDA_HANDOFF_NEXT);
+}
+
+/* 1 where the answer of pajurenda_handoff is the end block: the list is done. */
+static inline int pajurenda_is_end(const uint8_t *answer)
+{
+	return pajurenda_field(answer, PAJURENDA_HANDOFF_KIND) == PAJURENDA_BLOCK_END;
+}
+
+/* The name of a block's kind; "nothing" where refused. */
+static inline const char *pajurenda_kind_name(uint64_t kind)
+{
+	switch (kind) {
+	case PAJURENDA_BLOCK_HANDOFF: return "handoff";
+	case PAJURENDA_BLOCK_RESOURCE: return "resource";
+	case PAJURENDA_BLOCK_GUID: return "guid";
+	case PAJURENDA_BLOCK_UNKNOWN: return "unknown";
+	case PAJURENDA_BLOCK_END: return "end";
+	default: return "nothing";
+	}
+}
+
 /* The name of an answer's number; "unknown" where it is no answer. */
 static inline const char *pajurenda_name(uint32_t number)
 {
@@ -226,6 +311,10 @@ static inline const char *pajurenda_name(uint32_t number)
 	case PAJURENDA_NEWBASE: return "NEWBASE";
 	case PAJURENDA_PAIR: return "PAIR";
 	case PAJURENDA_ROOM: return "ROOM";
+	case PAJURENDA_BLOCK: return "BLOCK";
+	case PAJURENDA_FIRST: return "FIRST";
+	case PAJURENDA_NOTHING: return "NOTHING";
+	case PAJURENDA_KIND: return "KIND";
 	case PAJURENDA_SHORT: return "SHORT";
 	default: return "unknown";
 	}
@@ -264,11 +353,28 @@ static inline const char *pajurenda_image_sentence(uint32_t number)
 	}
 }
 
+/* The rules 30 to 33, for pajurenda_sentence. */
+static inline const char *pajurenda_handoff_sentence(uint32_t number)
+{
+	switch (number) {
+	case PAJURENDA_BLOCK:
+		return "a block must have a header of 8 bytes and a length of 8 or more, "
+		       "in steps of 8, that ends within the buffer";
+	case PAJURENDA_FIRST: return "the list must start with a block of type 1 and length 56";
+	case PAJURENDA_NOTHING: return "a list must go on up to its end block, of type 0xFFFF";
+	default:
+		return "a resource (type 3) must have 48 bytes or more, a GUID block (type 4) 24 or "
+		       "more, the end block exactly 8";
+	}
+}
+
 /* The rule behind an answer's number in a sentence; "unknown" where it is no answer. */
 static inline const char *pajurenda_sentence(uint32_t number)
 {
 	if (number >= PAJURENDA_LENGTH && number <= PAJURENDA_OVERLAP)
 		return pajurenda_image_sentence(number);
+	if (number >= PAJURENDA_BLOCK && number <= PAJURENDA_KIND)
+		return pajurenda_handoff_sentence(number);
 	switch (number) {
 	case PAJURENDA_ACCEPTED: return "every rule is kept";
 	case PAJURENDA_SHEET:

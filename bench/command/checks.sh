@@ -73,7 +73,7 @@ works() {
 # the names by their numbers
 name_of() {
 	set -- "$1" LENGTH VOLUME FILE SECTION HEADER SIZE COMPONENT BASE TABLE CONFIG UPD TYPE PLACE OVERLAP SHEET IDENTITY FIELD \
-		NEWBASE PAIR ROOM
+		NEWBASE PAIR ROOM - - - - - - - - - BLOCK FIRST NOTHING KIND
 	shift "$1"
 	echo "$1"
 }

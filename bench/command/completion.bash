@@ -18,16 +18,18 @@ offers() {
 	count=$((count + 1))
 }
 
-offers 'apply|audit|help|move|read|setting' ''
+offers 'apply|audit|handoff|help|move|read|setting' ''
 offers 'apply|audit' a
 offers '--help|--version' -
 offers '--version' --v
-offers 'apply|audit|move|read|setting' help ''
+offers 'apply|audit|handoff|move|read|setting' help ''
+offers 'handoff|help' h
 offers '' help read ''
 offers '--help|--words' read -
 offers '--bytes|--help|--ranges' audit -
 offers '--ranges' audit image --r
 offers '--ranges' --bytes audit image --r
+offers '--help|--json' handoff -
 offers '--help' move -
 offers '--help' setting -
 offers 'a b|image' read ''
@@ -46,6 +48,9 @@ offers '' setting image ''
 offers '' setting image 40 ''
 offers '' read -- -
 offers 'a b|image' audit -- image ''
+offers 'a b|image' handoff ''
+offers 'a b|image' handoff --json ''
+offers '' handoff image ''
 offers '' nonsense ''
 [[ $(complete -p pajurenda) == *_pajurenda* ]] || { echo "no completion of the command" >&2; exit 1; }
 echo $((count + 1))

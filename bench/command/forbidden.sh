@@ -12,6 +12,7 @@ try_forbidden() {
 	chmod 555 "$work/open/locked"
 	chmod 777 "$work/open"
 	keeps_as_other 'open/secret: Permission denied' read "$work/open/secret"
+	keeps_as_other 'open/secret: Permission denied' handoff "$work/open/secret"
 	keeps_as_other 'open/secret: Permission denied' audit "$work/open/vendor" "$work/open/secret"
 	keeps_as_other 'open/protected: Permission denied' move "$work/open/vendor" 0 "$work/open/protected"
 	keeps_as_other 'locked/out: Permission denied' move "$work/open/vendor" 0 "$work/open/locked/out"

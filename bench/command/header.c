@@ -22,6 +22,35 @@ static const char *const names[] = {
 	"UPD", "TYPE", "PLACE", "OVERLAP", "SHEET", "IDENTITY", "FIELD", "NEWBASE", "PAIR", "ROOM",
 };
 
+/* The names of 30 to 33, and of the kinds of blocks. */
+static const char *const handoff_names[] = { "BLOCK", "FIRST", "NOTHING", "KIND" };
+static const char *const kind_names[] = { "nothing", "handoff", "resource", "guid", "unknown", "end", "nothing" };
+
+/* The same for hand-off blocks; a step's answer gives its next cursor and its end. */
+static void try_handoff(void)
+{
+	uint8_t answer[PAJURENDA_HANDOFF_BYTES] = { 0 };
+	for (uint32_t i = 30; i <= 33; i++) {
+		check(strcmp(pajurenda_name(i), handoff_names[i - 30]) == 0, "a name");
+		check(strlen(pajurenda_sentence(i)) > 10, "a sentence");
+		for (uint32_t j = 0; j < i; j++)
+			check(strcmp(pajurenda_sentence(i), pajurenda_sentence(j)) != 0, "two sentences alike");
+	}
+	for (uint64_t kind = 0; kind <= 6; kind++) {
+		check(strcmp(pajurenda_kind_name(kind), kind_names[kind]) == 0, "a kind's name");
+		answer[40] = (uint8_t)kind;
+		check(pajurenda_is_end(answer) == (kind == 5), "an end");
+	}
+	answer[41] = 1;
+	check(!pajurenda_is_end(answer), "an end of no kind");
+	answer[8] = 56;
+	answer[15] = 255;
+	check(pajurenda_next(answer) == 0xFF00000000000038u, "the next cursor");
+	check(pajurenda_field(answer, PAJURENDA_HANDOFF_SIZE) == 0, "a resource's size");
+	check(PAJURENDA_HANDOFF_SIZE + 8 == PAJURENDA_HANDOFF_BYTES, "a step's last field");
+	check(PAJURENDA_HANDOFFS_COUNT + 8 == PAJURENDA_HANDOFFS_BYTES, "a walk's last field");
+}
+
 /* Each number has its name and a sentence that no other has. */
 static void try_numbers(void)
 {
@@ -33,7 +62,7 @@ static void try_numbers(void)
 	}
 	check(strcmp(pajurenda_name(PAJURENDA_SHORT), "SHORT") == 0, "the name of 100");
 	check(strcmp(pajurenda_sentence(PAJURENDA_SHORT), "unknown") != 0, "the sentence of 100");
-	static const uint32_t others[] = { 21, 22, 99, 101, 65536, 65537, 4294967295u };
+	static const uint32_t others[] = { 21, 22, 29, 34, 99, 101, 65536, 65537, 4294967295u };
 	for (size_t i = 0; i < sizeof others / sizeof others[0]; i++) {
 		check(strcmp(pajurenda_name(others[i]), "unknown") == 0, "a name of no answer");
 		check(strcmp(pajurenda_sentence(others[i]), "unknown") == 0, "a sentence of no answer");
@@ -94,6 +123,7 @@ static void try_version(void)
 int main(void)
 {
 	try_numbers();
+	try_handoff();
 	try_fields();
 	try_place(0, 0, 0);
 	try_place(16777215, 0, 16777215);

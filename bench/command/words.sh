@@ -14,7 +14,7 @@ help_is() {
 try_help() {
 	works 0 --help
 	cp "$work/out" "$work/help.all"
-	for word in read move apply setting audit help --words --bytes --ranges --version 'Exit status' ' 20  ROOM'; do
+	for word in read move apply setting audit handoff help --words --bytes --ranges --json --version 'Exit status' ' 20  ROOM' ' 33  KIND'; do
 		grep -qF -e "$word" "$work/out" || fail "the help does not speak of $word"
 		passed
 	done
@@ -22,7 +22,7 @@ try_help() {
 		# shellcheck disable=SC2086
 		help_is all $words
 	done
-	for name in read move apply setting audit; do
+	for name in read move apply setting audit handoff; do
 		works 0 help "$name"
 		cp "$work/out" "$work/help.$name"
 		[ "$(head -n 1 "$work/out" | cut -d ' ' -f 1-3)" = "usage: pajurenda $name" ] || fail "no usage first"
@@ -34,6 +34,7 @@ try_help() {
 	done
 	grep -qF -e --words "$work/help.read" || fail "read's help has no --words"
 	grep -qF -e --ranges "$work/help.audit" || fail "audit's help has no --ranges"
+	grep -qF -e --json "$work/help.handoff" || fail "handoff's help has no --json"
 }
 
 # the version of the header, and what the build said of the kit

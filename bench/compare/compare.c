@@ -1,23 +1,17 @@
 /* The linked library against the second reader, on drawn and damaged inputs. */
-#define _DEFAULT_SOURCE
-
 #include "pajurenda.h"
 
 #include <inttypes.h>
-#include <signal.h>
 #include <stdbool.h>
 #include <stdio.h>
 #include <stdlib.h>
 #include <string.h>
-#include <sys/mman.h>
-#include <unistd.h>
 
 #include "fields.h"
 #include "images.h"
+#include "lent.h"
 #include "../second/second.h"
 
-#define GUARD ((size_t)64)
-#define EDGE ((size_t)65536)
 #define IMAGE_ROOM ((size_t)TWO24 + 65536)
 #define PLACES_ROOM (4 * (size_t)TWO24 + 65536)
 #define ANSWER_ROOM ((size_t)4096)
@@ -40,20 +34,12 @@ enum part { IMAGE, OTHER, PLACES, ANSWER, PARTS };
 static const char *const part_name[PARTS] = { "image", "other", "places", "answer" };
 static const size_t part_room[PARTS] = { IMAGE_ROOM, IMAGE_ROOM, PLACES_ROOM, ANSWER_ROOM };
 
-/* A buffer lent to the library, with guard bytes and untouchable pages around it. */
-struct lent {
-	uint8_t *low;
-	uint8_t *at;
-	size_t lead, tail;
-};
-
 static struct lent lent[PARTS];
 static uint8_t *model[PARTS];
 static size_t length[PARTS];
 static uint32_t *list;
 static struct plan plan;
 static uint64_t first_number, second_number;
-static char whereabouts[96];
 
 /* Lengths at the edges of refusal 1; an image of any other length is drawn. */
 enum edge { EMPTY, BELOW_LEAST, LEAST, BELOW_MOST, MOST, ABOVE_MOST, EDGES };
@@ -65,58 +51,11 @@ static uint64_t seen[CALLS][101];
 static uint64_t at_edge[CALLS][EDGES], past_reading[CALLS][EDGES];
 static uint64_t long_images;
 
-/* ---- buffers ---- */
-
-/* Memory or the end. */
-static void *memory(void *got)
-{
-	if (got == NULL || got == MAP_FAILED) {
-		fputs("compare: no memory\n", stderr);
-		exit(2);
-	}
-	return got;
-}
-
-/* One buffer between two untouchable stretches. */
+/* One buffer to lend, and the model's. */
 static void open_part(enum part part)
 {
-	const size_t whole = part_room[part] + 2 * EDGE;
-	uint8_t *at = memory(mmap(NULL, whole, PROT_NONE, MAP_PRIVATE | MAP_ANONYMOUS, -1, 0));
-	if (mprotect(at + EDGE, part_room[part], PROT_READ | PROT_WRITE) != 0)
-		(void)memory(NULL);
-	lent[part].low = at + EDGE;
+	open_lent(&lent[part], part_room[part]);
 	model[part] = memory(malloc(part_room[part]));
-}
-
-/* The model's bytes lent: against the upper edge, against the lower, or between guard bytes. */
-static void lend(enum part part)
-{
-	struct lent *to = &lent[part];
-	const size_t room = part_room[part], free_room = room - length[part];
-	const uint64_t kind = below(3);
-	size_t from = kind == 0 ? free_room : kind == 1 ? 0 : GUARD + (size_t)below(64);
-
-	if (from > free_room)
-		from = free_room;
-	to->at = to->low + from;
-	to->lead = from < GUARD ? from : GUARD;
-	to->tail = free_room - from < GUARD ? free_room - from : GUARD;
-	memset(to->at - to->lead, 0xA5, to->lead);
-	memset(to->at + length[part], 0x5A, to->tail);
-	memcpy(to->at, model[part], length[part]);
-}
-
-/* The guard bytes are whole. */
-static bool guarded(enum part part)
-{
-	const struct lent *of = &lent[part];
-	for (size_t i = 1; i <= of->lead; i++)
-		if (of->at[0 - i] != 0xA5)
-			return false;
-	for (size_t i = 0; i < of->tail; i++)
-		if (of->at[length[part] + i] != 0x5A)
-			return false;
-	return true;
 }
 
 /* ---- images ---- */
@@ -582,37 +521,19 @@ static uint32_t call_model(enum call call)
 	return (uint32_t)fields[0];
 }
 
-/* Says where a lent buffer differs; true where it does not. */
-static bool same_part(enum part part)
-{
-	const uint8_t *got = lent[part].at, *wanted = model[part];
-	size_t at = 0;
-	if (!guarded(part)) {
-		printf("guard bytes of the %s changed\n", part_name[part]);
-		return false;
-	}
-	if (memcmp(got, wanted, length[part]) == 0)
-		return true;
-	while (got[at] == wanted[at])
-		at++;
-	printf("%s byte %zu of %zu: %02X, not %02X\n", part_name[part], at, length[part],
-	       (unsigned)got[at], (unsigned)wanted[at]);
-	return false;
-}
-
 /* One drawn call on both sides; true where all is the same. */
 static bool compare_call(enum call call)
 {
 	bool same = true;
 	for (int part = 0; part < PARTS; part++)
-		lend((enum part)part);
+		lend(&lent[part], model[part], length[part]);
 	const uint32_t got = call_library(call), wanted = call_model(call);
 	if (got != wanted) {
 		printf("returned %" PRIu32 ", not %" PRIu32 "\n", got, wanted);
 		same = false;
 	}
 	for (int part = 0; part < PARTS; part++)
-		same = same_part((enum part)part) && same;
+		same = same_lent(&lent[part], part_name[part], model[part]) && same;
 	seen[call][wanted]++;
 	long_images += length[IMAGE] > 1048576 ? 1 : 0;
 	for (int edge = 0; edge < EDGES; edge++)
@@ -624,24 +545,6 @@ static bool compare_call(enum call call)
 }
 
 /* ---- the run ---- */
-
-/* A touch outside a lent buffer, or any sudden end of a call, is told with its whereabouts. */
-static void on_fault(int number)
-{
-	static const char what[] = "different: a signal ended the call (memory touched that was not lent?)\n";
-	(void)number;
-	if (write(1, what, sizeof what - 1) < 0 || write(1, whereabouts, strlen(whereabouts)) < 0)
-		_exit(3);
-	_exit(1);
-}
-
-/* The same for every signal that a fault raises. */
-static void watch_faults(void)
-{
-	static const int faults[] = { SIGSEGV, SIGBUS, SIGILL, SIGFPE, SIGABRT, SIGTRAP };
-	for (size_t i = 0; i < sizeof faults / sizeof faults[0]; i++)
-		signal(faults[i], on_fault);
-}
 
 /* Document 01: the numbers that a call can have. */
 static bool can_be(enum call call, int number)
@@ -733,18 +636,6 @@ static int run(uint64_t seed, uint64_t first, uint64_t count)
 		}
 	}
 	return conclude(first, count);
-}
-
-/* A decimal number of the command line, or the end. */
-static uint64_t number_of(const char *text)
-{
-	char *end = NULL;
-	const uint64_t value = strtoull(text, &end, 10);
-	if (text[0] < '0' || text[0] > '9' || *end != 0) {
-		fprintf(stderr, "compare: %s is no number\n", text);
-		exit(2);
-	}
-	return value;
 }
 
 /* compare SEED CALLS [FIRST]; FIRST with one call repeats that call alone. */

@@ -1,9 +1,10 @@
-/* The five calls over the second reader, for building and testing before the archive is there. */
+/* The calls over the second reader, for building and testing before the archive is there. */
 #include "pajurenda.h"
 
 #include <stdlib.h>
 
 #include "fields.h"
+#include "../second/handoff.h"
 #include "../second/second.h"
 
 #define FIELDS(list) (sizeof(list) / sizeof((list)[0]))
@@ -88,6 +89,31 @@ uint32_t pajurenda_audit(const uint8_t *vendor, size_t vendor_length,
 		r = list_differences(vendor, shipped, vendor_length, places, count);
 	const uint64_t fields[] = { r.number, r.index, r.base, r.settings, r.strays,
 				    r.bits, r.explained };
+	put_fields(answer, fields, FIELDS(fields));
+	return (uint32_t)r.number;
+}
+
+/* One hand-off block. */
+uint32_t pajurenda_handoff(const uint8_t *buffer, size_t length, uint64_t cursor,
+			   uint8_t *answer, size_t answer_length)
+{
+	if (answer_length < PAJURENDA_HANDOFF_BYTES)
+		return PAJURENDA_SHORT;
+	const struct second_block b = second_handoff_step(buffer, length, cursor);
+	const uint64_t fields[] = { b.number, b.next, b.place, b.type, b.length,
+				    b.kind, b.a, b.b, b.c, b.d };
+	put_fields(answer, fields, FIELDS(fields));
+	return (uint32_t)b.number;
+}
+
+/* The whole list of them. */
+uint32_t pajurenda_handoffs(const uint8_t *buffer, size_t length,
+			    uint8_t *answer, size_t answer_length)
+{
+	if (answer_length < PAJURENDA_HANDOFFS_BYTES)
+		return PAJURENDA_SHORT;
+	const struct second_list r = second_handoffs(buffer, length);
+	const uint64_t fields[] = { r.number, r.place, r.count };
 	put_fields(answer, fields, FIELDS(fields));
 	return (uint32_t)r.number;
 }

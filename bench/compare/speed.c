@@ -11,7 +11,9 @@
 #include <time.h>
 
 #include "fields.h"
+#include "handoff_images.h"
 #include "images.h"
+#include "../second/handoff.h"
 #include "../second/second.h"
 
 /* A run has so many seconds at least; a row has so many seconds and runs, and goes on while one of the last runs was better. */
@@ -28,6 +30,7 @@ static struct plan plan;
 static uint8_t *image, *shipped, *places;
 static uint32_t *list;
 static size_t size, places_count;
+static uint64_t entries;
 static uint8_t sheet[16 + 10 * FIELDS_SET];
 static uint8_t answer[PAJURENDA_READ_BYTES];
 static volatile uint64_t refused, different;
@@ -82,6 +85,16 @@ static void library_audit(void)
 static void plain_audit(void)
 {
 	refused += second_audit(image, size, shipped, size, list, places_count).number;
+}
+
+static void library_handoffs(void)
+{
+	refused += pajurenda_handoffs(image, size, answer, sizeof answer);
+}
+
+static void plain_handoffs(void)
+{
+	refused += second_handoffs(image, size).number;
 }
 
 /* Both buffers at once. */
@@ -178,7 +191,7 @@ static void row(const char *name, work *library, work *plain, work *third)
 		fprintf(stderr, "speed: %s was refused\n", name);
 		exit(2);
 	}
-	printf("| %s | %zu | %" PRIu64 " |", name, size / 1024, plan.n);
+	printf("| %s | %zu | %" PRIu64 " |", name, size / 1024, entries);
 	show_time(best[0]);
 	show_time(best[1]);
 	printf(" %.2f |", best[0] / best[1]);
@@ -213,7 +226,7 @@ static void make_image(size_t length, uint64_t n)
 {
 	numbers_from(length + n);
 	plan_plain(&plan);
-	plan.n = n;
+	plan.n = entries = n;
 	plan.before = n / 2;
 	plan.z = 4096;
 	plan.base = 0xF0000000;
@@ -224,6 +237,19 @@ static void make_image(size_t length, uint64_t n)
 	make_sheet();
 	if (size != length || second_read(image, size).number != 0) {
 		fputs("speed: the image is not as planned\n", stderr);
+		exit(2);
+	}
+}
+
+/* A list of 64 KiB of blocks of 8 to 56 bytes. */
+static void make_list(void)
+{
+	uint64_t state = 101;
+	size = handoff_many(&state, image, 65536);
+	const struct second_list list_read = second_handoffs(image, size);
+	entries = list_read.count;
+	if (size != 65536 || list_read.number != 0) {
+		fputs("speed: the list is not as planned\n", stderr);
 		exit(2);
 	}
 }
@@ -279,9 +305,12 @@ int main(void)
 	for (size_t i = 0; i < 3; i++)
 		for (size_t k = 0; k < 3; k++)
 			rows(lengths[i], counts[k]);
+	make_list();
+	row("handoffs", library_handoffs, plain_handoffs, NULL);
 	printf("\nProcessor time of our own, the best of as many runs as the row says (%u at least, in turn, until %u in a\n"
 	       "row were no better). Ratio: library's time / the other's. \"none\": no difference, memcmp over the\n"
-	       "whole; \"many\": moved, every 16th byte another, memcmp in blocks of %zu.\n",
+	       "whole; \"many\": moved, every 16th byte another, memcmp in blocks of %zu. \"handoffs\": blocks of 8 to\n"
+	       "56 bytes, n of them.\n",
 	       LEAST_RUNS, QUIET_RUNS, BLOCK);
 	return 0;
 }

@@ -8,6 +8,9 @@ use Rattle.image.specs.Reading.{reading}
 use Rattle.moving.specs.Moving.{moving, movedImage}
 use Rattle.sheet.specs.Applying.{applying, appliedImage}
 use Rattle.audit.specs.Audit.{auditing, listedBytes}
+use Rattle.handoff.specs.Step.{stepped}
+use Rattle.handoffs.specs.Blocks.{blocks, counted}
+use Rattle.answers.specs.Steps.{stepFields, countFields}
 use Rattle.answers.specs.Answers.{ifRoom, result, answered, readFields, moveFields, applyFields, finding, settingFields, auditFields}
 
 -- `pajurenda_read`
@@ -34,3 +37,11 @@ abbrev pub AuditCall : List ℕ → List ℕ → List ℕ → List ℕ → ℕ �
 AuditCall xs ys bytes A r l a =
     (r ≡ result 7 A (auditing xs ys (length bytes / 4) .number))
     × ((l ≡ ifRoom 7 A (listedBytes xs ys bytes) bytes) × (a ≡ answered A (auditFields (auditing xs ys (length bytes / 4)))))
+
+-- `pajurenda_handoff`
+abbrev pub HandoffCall : List ℕ → ℕ → List ℕ → ℕ → List ℕ → Type 0
+HandoffCall xs at A r a = (r ≡ result 10 A (stepped xs at .number)) × (a ≡ answered A (stepFields (stepped xs at)))
+
+-- `pajurenda_handoffs`
+abbrev pub HandoffsCall : List ℕ → List ℕ → ℕ → List ℕ → Type 0
+HandoffsCall xs A r a = (r ≡ result 3 A (counted (blocks xs) .number)) × (a ≡ answered A (countFields (counted (blocks xs))))

@@ -1,5 +1,5 @@
 // The library as C calls it. Each answer is written in a lent buffer; the header is include/pajurenda.h.
-ghost use Rattle.pajurenda.specs.Promises.{ReadCall, MoveCall, ApplyCall, SettingCall, AuditCall};
+ghost use Rattle.pajurenda.specs.Promises.{ReadCall, MoveCall, ApplyCall, SettingCall, AuditCall, HandoffCall, HandoffsCall};
 
 // Reads an image.
 #[no_mangle]
@@ -68,5 +68,34 @@ pub extern "C" fn pajurenda_audit(
     }
     let r = audit::audit_bytes(vendor, shipped, places);
     answers::write_audited(answer, r);
+    r.number
+}
+
+// One step over hand-off blocks.
+#[no_mangle]
+pub extern "C" fn pajurenda_handoff(buffer: &[u8], cursor: u64, answer: &mut [u8]) -> u32
+    ensures { λ r. ⌜ HandoffCall (now (buffer .entry)) cursor (now (answer .entry)) r (now (answer .exit)) ⌝ }
+{
+    if answer.len() < 80 {
+        return 100;
+    }
+    let c = handoff::Cursor {
+        at: cursor as usize,
+    };
+    let s = c.step(buffer);
+    answers::write_step(answer, s);
+    s.number
+}
+
+// The whole list of hand-off blocks, counted.
+#[no_mangle]
+pub extern "C" fn pajurenda_handoffs(buffer: &[u8], answer: &mut [u8]) -> u32
+    ensures { λ r. ⌜ HandoffsCall (now (buffer .entry)) (now (answer .entry)) r (now (answer .exit)) ⌝ }
+{
+    if answer.len() < 24 {
+        return 100;
+    }
+    let r = handoffs::count(buffer);
+    answers::write_counted(answer, r);
     r.number
 }
