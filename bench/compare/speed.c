@@ -97,6 +97,15 @@ static void plain_handoffs(void)
 	refused += second_handoffs(image, size).number;
 }
 
+/* The header's sum alone, one word a turn, as the library had it before #103. */
+static void one_word_sum(void)
+{
+	uint64_t sum = 0;
+	for (uint64_t i = 0; i < plan.h / 2; i++)
+		sum += (uint64_t)image[2 * i] + 256 * (uint64_t)image[2 * i + 1];
+	refused += sum % 65536;
+}
+
 /* Both buffers at once. */
 static void memcmp_whole(void)
 {
@@ -241,6 +250,24 @@ static void make_image(size_t length, uint64_t n)
 	}
 }
 
+/* An accepted image with a header of h bytes and no entries. */
+static void make_headed(uint64_t h)
+{
+	numbers_from(h);
+	plan_plain(&plan);
+	plan.h = h;
+	plan.base = 0xF0000000;
+	entries = 0;
+	lay_out(&plan, 131072);
+	size = (size_t)plan.length;
+	fill_bytes(image, plan.length);
+	build(&plan, image);
+	if (second_read(image, size).number != 0) {
+		fputs("speed: the image with a long header is not as planned\n", stderr);
+		exit(2);
+	}
+}
+
 /* A list of 64 KiB of blocks of 8 to 56 bytes. */
 static void make_list(void)
 {
@@ -307,10 +334,12 @@ int main(void)
 			rows(lengths[i], counts[k]);
 	make_list();
 	row("handoffs", library_handoffs, plain_handoffs, NULL);
+	make_headed(65534);
+	row("read, header of 65,534", library_read, plain_read, one_word_sum);
 	printf("\nProcessor time of our own, the best of as many runs as the row says (%u at least, in turn, until %u in a\n"
 	       "row were no better). Ratio: library's time / the other's. \"none\": no difference, memcmp over the\n"
 	       "whole; \"many\": moved, every 16th byte another, memcmp in blocks of %zu. \"handoffs\": blocks of 8 to\n"
-	       "56 bytes, n of them.\n",
+	       "56 bytes, n of them. \"header of 65,534\": beside it not memcmp but the header's sum alone, a word a turn.\n",
 	       LEAST_RUNS, QUIET_RUNS, BLOCK);
 	return 0;
 }

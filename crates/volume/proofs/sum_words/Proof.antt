@@ -1,6 +1,7 @@
-use Rattle.volume.specs.Volume.{sumWords}
+use Rattle.volume.specs.SumLaws.{sumTurns, Halves, halves-add, halves-fit, by-turns}
 use native.Mathlib.Numerals.{add-one}
-use Prim.Native.Nat.{_≤_, _*_, _-_}
+use Prim.Native.Nat.{_≤_, _-_, _/_}
+use native.Mathlib.Nat.{le-antisymm}
 use mathlib.Core.Path.{_≡_}
 use native.Mathlib.Omega.{arith}
 use borrow.Author.Needs.{needs}
@@ -8,38 +9,52 @@ use Rattle.volume.proofs.sum_words.Statement.{statement}
 use Rattle.volume.proofs.sum_words.Tie as tie
 
 abbrev Inv-loop : tie.InvT-loop
-Inv-loop image n sum₀ i₀ sum i = (i ≤ n) × (sum ≡ sumWords image i) × (sum ≤ 65535 * i)
+Inv-loop image n turns both₀ t₀ both t = (t ≤ turns) × Halves t (sumTurns image 4 t) both
 
 abbrev μ-loop : tie.MeasureT-loop
-μ-loop image n sum₀ i₀ sum i = n - i
+μ-loop image n turns both₀ t₀ both t = turns - t
 
 loop-holds : tie.Need-loop-holds Inv-loop μ-loop
-unfolding sumWords
-loop-holds c = search needs
+unfolding sumTurns
+loop-holds c = (omega arith, record { is = omega arith; low = omega arith; high = omega arith })
 
-mul-le16 : tie.Need-mul-le16 Inv-loop μ-loop
-mul-le16 c = search needs
+mul-four-words : tie.Need-mul-four-words Inv-loop μ-loop
+mul-four-words c = search needs
 
-le16-requires : tie.Need-le16-requires Inv-loop μ-loop
-le16-requires c κs = search needs
+four-words-requires : tie.Need-four-words-requires Inv-loop μ-loop
+four-words-requires c κs = search needs
 
-add-sum : tie.Need-add-sum Inv-loop μ-loop
-add-sum c = search needs
+add-both : tie.Need-add-both Inv-loop μ-loop
+add-both c = record { fits = halves-fit (omega arith) (c .before .before .loop .inv .1) (c .four-words .ensures) }
 
-add-i : tie.Need-add-i Inv-loop μ-loop
-add-i c = search needs
+add-t : tie.Need-add-t Inv-loop μ-loop
+add-t c = search needs
 
 loop-less : tie.Need-loop-less Inv-loop μ-loop
 loop-less c = search needs
 
 loop-again : tie.Need-loop-again Inv-loop μ-loop
-unfolding sumWords
-loop-again c = rw add-one (omega arith)
+unfolding sumTurns
+loop-again c = rw add-one (omega arith, halves-add (omega arith) (c .before .before .loop .inv .1) (c .four-words .ensures))
+
+add-result : tie.Need-add-result Inv-loop μ-loop
+add-result c = search needs
+
+mul-rest-words : tie.Need-mul-rest-words Inv-loop μ-loop
+mul-rest-words c = search needs
+
+rest-words-requires : tie.Need-rest-words-requires Inv-loop μ-loop
+rest-words-requires c κs = search needs
+
+add-result-2 : tie.Need-add-result-2 Inv-loop μ-loop
+add-result-2 c = search needs
 
 returns : tie.Need-returns Inv-loop μ-loop
 returns c =
-    let e : c .before .before .before .args .n ≡ c .before .loop .i = omega arith in
-    rw e (c .before .loop .inv .1)
+    let start = c .before .before .before .before in
+    let loop = c .before .before .loop in
+    let last : loop .t ≡ start .args .n / 4 = le-antisymm (loop .inv .0) (c .before .loop-test .left) in
+    rw (loop .inv .1 .is, last, c .rest-words .ensures .0) (by-turns (start .args .image .now) 4 (start .args .n))
 
 pub sum-words-spec : {M : Type 1} → statement M
 sum-words-spec =
@@ -48,10 +63,14 @@ sum-words-spec =
     Inv-loop
     μ-loop
     loop-holds
-    mul-le16
-    le16-requires
-    add-sum
-    add-i
+    mul-four-words
+    four-words-requires
+    add-both
+    add-t
     loop-less
     loop-again
+    add-result
+    mul-rest-words
+    rest-words-requires
+    add-result-2
     returns)
