@@ -16,9 +16,13 @@
 
 static const char read_help[] =
 	"Shows what the header of IMAGE says: its length, component, identity (in hex, and as\n"
-	"text where it is printable), revision, base, the position of the FSP header, the number\n"
-	"of patch entries, the position after the last of them, and the configuration region's\n"
-	"position c and size z.\n"
+	"text where it is printable), revision, extended number, version, base, the position of\n"
+	"the FSP header, the number of patch entries, the position after the last of them, and\n"
+	"the configuration region's position c and size z.\n"
+	"\n"
+	"The version is major.minor.revision.build, in decimal: the revision's four bytes, with\n"
+	"the extended number's two as upper halves of revision and build. Below header revision\n"
+	"6 there is no extended number, and it is shown as 0x0000.\n"
 	"\n"
 	"--words  also lists the words that a move changes: the base word, then each patch word\n"
 	"         with its entry's index and value, its position and what stands there.\n";
@@ -31,7 +35,10 @@ static const char move_help[] =
 
 static const char apply_help[] =
 	"Writes to OUT the image IMAGE with the settings of the release sheet SHEET. The sheet\n"
-	"must be for IMAGE's identity and revision; all of it is judged before a byte is set.\n";
+	"must be for IMAGE's identity, revision and extended number, as `read` shows them; all of\n"
+	"it is judged before a byte is set. A sheet has the extended number in its bytes 14 and\n"
+	"15, the low byte first. An older sheet has 0 there: it is for images whose extended\n"
+	"number is 0.\n";
 
 static const char setting_help[] =
 	"Shows the place in the image, the length and the bytes of the setting of LENGTH bytes at\n"
@@ -81,7 +88,8 @@ static const char status_help[] =
 static const char general_help[] =
 	"\n"
 	"Numbers: hex as 0x00512000, or decimal without a leading 0; they must fit 64 bits. A base,\n"
-	"an address, a revision, a word and bytes are shown in hex, all else in decimal.\n"
+	"an address, a revision, an extended number, a word and bytes are shown in hex, all else\n"
+	"in decimal.\n"
 	"\n"
 	"Options may stand before or after the files; `--` ends them. A file named like an option\n"
 	"or `help` is given as ./NAME. A file longer than 16777216 bytes is refused as an image:\n"

@@ -16,6 +16,20 @@ static void show_field(const char *name, const uint8_t *answer, size_t field)
 	printf("%s %" PRIu64 "\n", name, pajurenda_field(answer, field));
 }
 
+/* The identity's three parts, and what the last two say together. */
+static void show_parts(const uint8_t *answer)
+{
+	const uint64_t revision = pajurenda_field(answer, PAJURENDA_READ_REVISION);
+	const uint64_t extended = pajurenda_field(answer, PAJURENDA_READ_EXTENDED);
+
+	fputs("identity ", stdout);
+	show_identity(stdout, pajurenda_identity(answer));
+	printf("\nrevision 0x%08" PRIX64 "\nextended 0x%04" PRIX64 "\n", revision, extended);
+	fputs("version ", stdout);
+	show_image_version(stdout, revision, extended);
+	putchar('\n');
+}
+
 /* The facts of an accepted reading. */
 static void show_reading(const struct bytes *image, const uint8_t *answer)
 {
@@ -24,9 +38,7 @@ static void show_reading(const struct bytes *image, const uint8_t *answer)
 
 	printf("length %zu\n", image->length);
 	printf("component %c\n", letter[component <= 4 ? component : 0]);
-	fputs("identity ", stdout);
-	show_identity(stdout, pajurenda_identity(answer));
-	printf("\nrevision 0x%08" PRIX64 "\n", pajurenda_field(answer, PAJURENDA_READ_REVISION));
+	show_parts(answer);
 	printf("base 0x%08" PRIX64 "\n", pajurenda_field(answer, PAJURENDA_READ_BASE));
 	show_field("header", answer, PAJURENDA_READ_HEADER);
 	show_field("patches", answer, PAJURENDA_READ_COUNT);

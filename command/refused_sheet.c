@@ -61,7 +61,7 @@ static void say_row(const struct bytes *sheet, uint64_t count)
 		")", row.length, row.body, row.running);
 }
 
-/* 15: length, count, the two bytes after it, and the entries as far as they follow each other. */
+/* 15: length, count, and the entries as far as they follow each other. */
 enum status refuse_sheet(const struct named *sheet)
 {
 	const struct bytes *bytes = &sheet->bytes;
@@ -71,33 +71,36 @@ enum status refuse_sheet(const struct named *sheet)
 	fputs("the file has ", stderr);
 	say_length(bytes);
 	if (has_bytes(bytes, 0, 16)) {
-		fprintf(stderr, ", m %" PRIu64 ", bytes 14 and 15 are 0x%04" PRIX64, count,
-			number_at(bytes, 14, 2));
+		fprintf(stderr, ", m %" PRIu64, count);
 		say_row(bytes, count);
 	}
 	return end_refusal();
 }
 
-/* An identity and a revision. */
-static void say_identity(const uint8_t *identity, uint64_t revision)
+/* The three parts of an identity as `read` has them, and the version they make. */
+static void say_identity(const uint8_t *identity, uint64_t revision, uint64_t extended)
 {
 	show_identity(stderr, identity);
-	fprintf(stderr, " revision 0x%08" PRIX64, revision);
+	fprintf(stderr, " revision 0x%08" PRIX64 " extended 0x%04" PRIX64 " version ", revision,
+		extended);
+	show_image_version(stderr, revision, extended);
 }
 
-/* 16: what the sheet is for, and what the image is. */
+/* 16: what the sheet is for, and what the image is, alike in form: the part that differs is seen. */
 enum status refuse_identity(const struct named *sheet, const struct named *image,
 			    const uint8_t *reading)
 {
 	begin_refusal(PAJURENDA_IDENTITY, sheet->name);
 	say_rule(PAJURENDA_IDENTITY);
 	fputs("the sheet is for ", stderr);
-	if (has_bytes(&sheet->bytes, 0, 12))
-		say_identity(sheet->bytes.at, number_at(&sheet->bytes, 8, 4));
+	if (has_bytes(&sheet->bytes, 0, 16))
+		say_identity(sheet->bytes.at, number_at(&sheet->bytes, 8, 4),
+			     number_at(&sheet->bytes, 14, 2));
 	fputs(", ", stderr);
 	say_name(image->name);
 	fputs(" is ", stderr);
-	say_identity(pajurenda_identity(reading), pajurenda_field(reading, PAJURENDA_READ_REVISION));
+	say_identity(pajurenda_identity(reading), pajurenda_field(reading, PAJURENDA_READ_REVISION),
+		     pajurenda_field(reading, PAJURENDA_READ_EXTENDED));
 	return end_refusal();
 }
 

@@ -37,6 +37,14 @@ void show_identity(FILE *to, const uint8_t *identity)
 	show_text(to, identity, 8);
 }
 
+/* Major, minor, revision and build, each with both its halves. */
+void show_image_version(FILE *to, uint64_t revision, uint64_t extended)
+{
+	fprintf(to, "%u.%u.%u.%u", pajurenda_image_major(revision), pajurenda_image_minor(revision),
+		pajurenda_image_revision(revision, extended),
+		pajurenda_image_build(revision, extended));
+}
+
 /* A GUID of 16 stored bytes, in the form people write it. */
 void show_guid(FILE *to, const uint8_t *guid)
 {

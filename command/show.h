@@ -11,6 +11,7 @@ bool is_printable(const uint8_t *bytes, size_t count);
 void show_text(FILE *to, const uint8_t *bytes, size_t count);
 void show_hex(FILE *to, const uint8_t *bytes, size_t count);
 void show_identity(FILE *to, const uint8_t *identity);
+void show_image_version(FILE *to, uint64_t revision, uint64_t extended);
 void show_guid(FILE *to, const uint8_t *guid);
 
 #endif

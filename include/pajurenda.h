@@ -15,9 +15,9 @@
  *
  * A refused call changes no byte of an image and no byte of a list.
  *
- * Small inline functions at the end read a field of an answer and a place of the audit's list, and
- * give each number its name and its rule in a sentence, and each kind of block its name. C99 and
- * later, and C++.
+ * Small inline functions at the end read a field of an answer and a place of the audit's list, take
+ * an image's version apart, and give each number its name and its rule in a sentence, and each kind
+ * of block its name. C99 and later, and C++.
  */
 #ifndef PAJURENDA_H
 #define PAJURENDA_H
@@ -30,9 +30,9 @@ extern "C" {
 #endif
 
 /* The version of header and library: the whole, and its three numbers. */
-#define PAJURENDA_VERSION "0.6.0"
+#define PAJURENDA_VERSION "0.7.0"
 #define PAJURENDA_VERSION_MAJOR 0
-#define PAJURENDA_VERSION_MINOR 6
+#define PAJURENDA_VERSION_MINOR 7
 #define PAJURENDA_VERSION_PATCH 0
 
 /* The answer's number. A check is made only if all earlier ones passed. */
@@ -53,7 +53,7 @@ enum {
 	PAJURENDA_PLACE = 13,     /* a patch word outside the image; with the entry's index */
 	PAJURENDA_OVERLAP = 14,   /* a patch word where none may be; with the entry's index */
 	PAJURENDA_SHEET = 15,     /* the release sheet's own form */
-	PAJURENDA_IDENTITY = 16,  /* the sheet is for another image or revision */
+	PAJURENDA_IDENTITY = 16,  /* the sheet is for another identity, revision or extended number */
 	PAJURENDA_FIELD = 17,     /* a setting outside the region's settings part */
 	PAJURENDA_NEWBASE = 18,   /* the new base isn't legal */
 	PAJURENDA_PAIR = 19,      /* the two images' lengths differ */
@@ -86,7 +86,8 @@ enum {
 	PAJURENDA_READ_SIZE = 64,      /* z, the size of the configuration region */
 	PAJURENDA_READ_COUNT = 72,     /* n, the number of patch entries */
 	PAJURENDA_READ_END = 80,       /* E, the position after the last patch entry */
-	PAJURENDA_READ_BYTES = 88
+	PAJURENDA_READ_EXTENDED = 88,  /* the extended number, 16 bits; 0 below header revision 6 */
+	PAJURENDA_READ_BYTES = 96
 };
 
 /* The answer of pajurenda_move; where refused, the move is 0. */
@@ -173,7 +174,11 @@ uint32_t pajurenda_read(const uint8_t *image, size_t length,
 uint32_t pajurenda_move(uint8_t *image, size_t length, uint64_t base,
 			uint8_t *answer, size_t answer_length);
 
-/* Applies a release sheet in place, in the settings part alone; refusals 1 to 14, then 15, 16, 17. */
+/*
+ * Applies a release sheet in place, in the settings part alone; refusals 1 to 14, then 15, 16, 17.
+ * The sheet is for an image by three parts: identity (its bytes 0 to 7), revision (8 to 11) and
+ * extended number (14 and 15; older sheets have 0 there).
+ */
 uint32_t pajurenda_apply(uint8_t *image, size_t length,
 			 const uint8_t *sheet, size_t sheet_length,
 			 uint8_t *answer, size_t answer_length);
@@ -240,6 +245,34 @@ static inline int64_t pajurenda_signed_field(const uint8_t *answer, size_t field
 static inline const uint8_t *pajurenda_identity(const uint8_t *answer)
 {
 	return answer + PAJURENDA_READ_IDENTITY;
+}
+
+/*
+ * An image's version, major.minor.revision.build, from the revision and the extended number that a
+ * reading gives or a sheet has. By the FSP specification 2.5 (FSP_INFO_HEADER, ImageRevision at 12
+ * and ExtendedImageRevision at 76) the extended number's low byte is the upper half of the build,
+ * its high byte that of the revision:
+ * pajurenda_image_build(pajurenda_field(answer, PAJURENDA_READ_REVISION),
+ *                       pajurenda_field(answer, PAJURENDA_READ_EXTENDED)).
+ */
+static inline unsigned pajurenda_image_major(uint64_t revision)
+{
+	return (unsigned)(revision >> 24 & 0xFF);
+}
+
+static inline unsigned pajurenda_image_minor(uint64_t revision)
+{
+	return (unsigned)(revision >> 16 & 0xFF);
+}
+
+static inline unsigned pajurenda_image_revision(uint64_t revision, uint64_t extended)
+{
+	return (unsigned)((extended >> 8 & 0xFF) << 8 | (revision >> 8 & 0xFF));
+}
+
+static inline unsigned pajurenda_image_build(uint64_t revision, uint64_t extended)
+{
+	return (unsigned)((extended & 0xFF) << 8 | (revision & 0xFF));
 }
 
 /* The i-th place of the audit's list, counted from 0, as it stands there. */
@@ -335,7 +368,7 @@ static inline const char *pajurenda_image_sentence(uint32_t number)
 		return "the header file's section must be of type 0x19 and of size 76 to s-24";
 	case PAJURENDA_HEADER:
 		return "the section must start with FSPH, of revision 3 or more and a length L "
-		       "from 72 to 256, with 4+L within the section's size";
+		       "from 72 (from revision 6 on, 80) to 256, with 4+L within the section's size";
 	case PAJURENDA_SIZE: return "the header must give the image's length";
 	case PAJURENDA_COMPONENT: return "the component must be 1 (T), 2 (M), 3 (S) or 4 (I)";
 	case PAJURENDA_BASE:
@@ -378,9 +411,10 @@ static inline const char *pajurenda_sentence(uint32_t number)
 	switch (number) {
 	case PAJURENDA_ACCEPTED: return "every rule is kept";
 	case PAJURENDA_SHEET:
-		return "a sheet must have 16 to 65535 bytes: contents (bytes 14 and 15 zero, at most "
-		       "256 entries in order, none empty), then bodies without a gap or a rest";
-	case PAJURENDA_IDENTITY: return "the sheet must be for the image's identity and revision";
+		return "a sheet must have 16 to 65535 bytes: contents (at most 256 entries in order, "
+		       "none empty), then bodies without a gap or a rest";
+	case PAJURENDA_IDENTITY:
+		return "the sheet must be for the image's identity, revision and extended number";
 	case PAJURENDA_FIELD:
 		return "a setting must have a byte or more, at offsets 32 to z-1 of the region";
 	case PAJURENDA_NEWBASE:

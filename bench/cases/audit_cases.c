@@ -26,7 +26,7 @@ static void audit_kinds(unsigned k)
 	const uint64_t at[] = {
 		0, 31, 32, 40, 49, 50, 71, spot.f, spot.f + 17, spot.f + 20, spot.f + 24, spot.H, spot.H + 11,
 		spot.H + 12, spot.H + 16, spot.H + 24, spot.H + 27, spot.H + 32, spot.H + 35, spot.H + 36,
-		spot.H + 40, spot.g, spot.p, spot.p + 8, spot.p + 12, spot.E - 1, spot.E, now.c - 1, now.c,
+		spot.H + 40, spot.H + 76, spot.H + 77, spot.g, spot.p, spot.p + 8, spot.p + 12, spot.E - 1, spot.E, now.c - 1, now.c,
 		now.c + 6, now.c + 7, now.c + 31, now.c + 32, now.c + 33, now.c + now.z - 2,
 		now.c + now.z - 1, now.c + now.z, word - 1, word, word + 1, word + 2, word + 3, word + 4,
 		now.length - 1,
@@ -66,6 +66,7 @@ static void audit_shadow(unsigned k)
 		{ spot.H + 40, now.z - 4 }, { spot.H + 40, 32 }, { spot.p + 8, now.n - 1 },
 		{ spot.p + 8, 0 }, { spot.p + 12, now.entry[0] + 4 }, { spot.p + 12, now.entry[0] - 4 },
 		{ spot.H, 'G' }, { spot.p + 15, 5 }, { spot.H + 4, now.L + 1 },
+		{ spot.H + 11, now.header_revision < 6 ? 6 : 5 }, { spot.H + 76, now.extended + 1 },
 	};
 	for (size_t i = 0; i < COUNT(number); i++) {
 		ship(random_base());

@@ -59,7 +59,8 @@ static void print_output(void)
 
 /* ---- the pairs ---- */
 
-/* A vendor image of this length and base: a region of 400 bytes at 4,096, four words, one of them at the very end. */
+/* A vendor image of this length and base, of header revision 6: a region of 400 bytes at 4,096, four words, one of them
+   at the very end. */
 static void build_vendor(uint64_t length, uint64_t base)
 {
 	const uint64_t place[] = { 4498, 4998, 6001, length - 4 };
@@ -68,6 +69,9 @@ static void build_vendor(uint64_t length, uint64_t base)
 	now.length = length;
 	now.V = length;
 	now.base = base;
+	now.header_revision = 6;
+	now.L = 80;
+	now.extended = 0x0102;
 	now.n = COUNT(place);
 	settle();
 	now.c = 4096;

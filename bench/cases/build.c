@@ -204,6 +204,8 @@ static void put_header(void)
 	put(spot.H + 34, 2, now.component << 12 | now.low12);
 	put(spot.H + 36, 4, now.c);
 	put(spot.H + 40, 4, now.z);
+	if (now.header_revision >= 6 && now.L >= 78)
+		put(spot.H + 76, 2, now.extended);
 }
 
 /* Refusal 9: FSPE, the patch table and its entries. */
@@ -262,6 +264,22 @@ uint64_t place_of(uint64_t k)
 	return now.entry[k] >> 31 == 0 ? low : now.length - (TWO24 - low);
 }
 
+/* #102: the extended number of the planned image. */
+uint64_t extended_number(void)
+{
+	return now.header_revision >= 6 ? now.extended : 0;
+}
+
+/* #102: a header revision by the fixed sequence, often 6 or more, with an L that it allows and a number. */
+void draw_revision(void)
+{
+	static const uint64_t revision[] = { 3, 4, 5, 6, 6, 6, 7, 8, 255 };
+	const size_t i = (size_t)below(COUNT(revision) + 1);
+	now.header_revision = i < COUNT(revision) ? revision[i] : 6 + below(250);
+	now.L = (now.header_revision < 6 ? 72 : 80) + below(17);
+	now.extended = below(8) == 0 ? 0 : below(65536);
+}
+
 /* "Moving": the highest legal base. */
 uint64_t highest_base(void)
 {
@@ -285,16 +303,20 @@ void fit(uint64_t tail)
 	settle();
 }
 
-/* Eight small plans: FSPE (bit 0), an extension (bit 1), words before the region (bit 2). */
+/* Eight small plans: FSPE and a revision of 6 or more (bit 0), an extension (bit 1), words before the region (bit 2). */
 void small(unsigned k)
 {
+	static const uint64_t header_revision[SMALLS] = { 3, 6, 5, 7, 4, 255, 5, 6 };
+	static const uint64_t L[SMALLS] = { 72, 80, 73, 81, 74, 82, 84, 95 };
 	static const uint64_t base[SMALLS] = {
 		0xFFF80000, 0x00100000, 0, 0xFFFFF000, 0x80000000, 0x7FFFF000, 0x1000, 0xFFFFE000,
 	};
 	start_small();
 	now.component = k % 4 + 1;
 	now.base = base[k];
-	now.L = 72 + k * 5 % 9;
+	now.header_revision = header_revision[k];
+	now.L = L[k];
+	now.extended = 0x5AA5 - k * 0x0303;
 	now.guard = k % 2 == 1 ? 23 + k : 0;
 	if (k / 2 % 2 == 1)
 		now.x = 72 + k, now.e = 20 + k;
@@ -332,12 +354,11 @@ void random_small(void)
 	now.h = 72 + 2 * below(8);
 	if (now.x != 0)
 		now.x = now.h + below(8), now.e = 20 + below(12);
-	now.L = 72 + below(12);
+	draw_revision();
 	now.guard = below(2) == 0 ? 24 + below(8) : 0;
 	now.n = below(7);
 	now.more_section = below(6);
 	now.more_file = below(6);
-	now.header_revision = 3 + below(253);
 	now.component = 1 + below(4);
 	now.low12 = below(4096);
 	now.identity = below(UINT64_C(1) << 47) * 131071;

@@ -58,9 +58,9 @@ void show(uint64_t len, uint64_t number, uint64_t index)
 	send_case(&(struct order){ .call = CALL_READ, .len = len });
 	if (fprintf(answers,
 		    "%" PRIu64 " %" PRIu64 " %" PRIu64 " %" PRIu64 " %" PRIu64 " %" PRIu64
-		    " %" PRIu64 " %" PRIu64 " %" PRIu64 " %" PRIu64 " %" PRIu64 "\n",
+		    " %" PRIu64 " %" PRIu64 " %" PRIu64 " %" PRIu64 " %" PRIu64 " %" PRIu64 "\n",
 		    r.number, r.index, r.H, r.component, r.image_identity, r.revision,
-		    r.base, r.c, r.z, r.n, r.E) < 0)
+		    r.base, r.c, r.z, r.n, r.E, r.extended) < 0)
 		fail("writing answers");
 	count_case(CALL_READ, r.number);
 }

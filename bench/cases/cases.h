@@ -19,7 +19,7 @@
 struct plan {
 	uint64_t length, V, h, x, e;
 	uint64_t L, guard, more_section, more_file;
-	uint64_t header_revision, component, low12, identity, revision, base;
+	uint64_t header_revision, component, low12, identity, revision, extended, base;
 	uint64_t n, table_length, table_reserved;
 	uint64_t gap, c, z, room, fill;
 	bool before;
@@ -52,6 +52,8 @@ uint64_t get_sheet(uint64_t at, uint64_t width);
 uint64_t word(uint64_t place, bool back, uint64_t bits, uint64_t type);
 uint64_t place_of(uint64_t k);
 uint64_t highest_base(void);
+uint64_t extended_number(void);
+void draw_revision(void);
 uint64_t random_base(void);
 void lay_out(void);
 void settle(void);

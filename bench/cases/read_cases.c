@@ -18,6 +18,16 @@ static void whole_images(void)
 	whole_most();
 }
 
+/* #102: the extended number. */
+static void extended_images(void)
+{
+	extended_lengths();
+	extended_values();
+	extended_unseen();
+	extended_edges();
+	extended_order();
+}
+
 /* Each damage and the plans it is done to. */
 static const struct {
 	void (*damage)(unsigned);
@@ -68,11 +78,12 @@ static void damaged_images(void)
 			task[i].damage((unsigned)(*k - '0'));
 }
 
-/* The read part: the 3,075 cases. */
+/* The read part: some 3,300 cases. */
 void read_part(void)
 {
 	begin_part(UINT64_C(0x9E3779B97F4A7C15), true);
 	whole_images();
+	extended_images();
 	damage_tiny();
 	damage_odd();
 	damage_extension_place();

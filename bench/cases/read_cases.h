@@ -43,6 +43,13 @@ void damage_component(unsigned k);
 void damage_base(unsigned k);
 void damage_base_length(void);
 
+/* read_extended.c */
+void extended_lengths(void);
+void extended_values(void);
+void extended_unseen(void);
+void extended_edges(void);
+void extended_order(void);
+
 /* read_table.c */
 void damage_table(unsigned k);
 void damage_cut(unsigned k);

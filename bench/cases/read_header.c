@@ -30,13 +30,11 @@ void damage_mark(unsigned k)
 /* Refusal 5: the revision byte and L. */
 void damage_header(unsigned k)
 {
+	static const uint64_t revision[] = { 0, 1, 2, 3, 4, 5, 6, 7, 0x80, 0xFF };
 	static const uint64_t L[] = { 0, 4, 0xFFFFFFFF, 0xFFFFFFFC, 0xFFFFFFFB, 0x80000048, 0x00010048, 0x7FFFFFFF };
 	start(k);
-	hit(spot.H + 11, 1, 0, 5);
-	hit(spot.H + 11, 1, 1, 5);
-	hit(spot.H + 11, 1, 2, 5);
-	hit(spot.H + 11, 1, 3, 0);
-	hit(spot.H + 11, 1, 0x80, 0);
+	for (size_t i = 0; i < COUNT(revision); i++)
+		hit(spot.H + 11, 1, revision[i], revision[i] < 3 || (revision[i] >= 6 && now.L < 80) ? 5 : 0);
 	hit(spot.H + 10, 1, 0, 0);
 	hit(spot.H + 10, 1, 0xFF, 0);
 	for (size_t i = 0; i < COUNT(L); i++)

@@ -9,15 +9,17 @@ void start(unsigned k)
 	if (k == 1) {
 		now.length = 12293, now.V = 12000, now.h = 96, now.x = 101, now.e = 37;
 		now.L = 77, now.guard = 27, now.n = 4, now.gap = 67, now.z = 100;
+		now.header_revision = 5;
 		now.more_section = 5, now.more_file = 9, now.low12 = 0x123;
 	} else if (k == 2) {
 		now.length = SPACE, now.V = SPACE, now.h = 65534;
 		now.L = 256, now.guard = 24, now.n = 16, now.z = 32;
-		now.base = 0x00100000, now.header_revision = 7;
+		now.base = 0x00100000, now.header_revision = 7, now.extended = 0xBE01;
 	} else if (k == 3) {
 		now.length = 4096, now.V = 4000, now.x = 72, now.e = 20;
 		now.L = 255, now.guard = 100, now.gap = 66, now.z = 333;
 		now.more_section = 16, now.base = 0xFFFFF000, now.low12 = 0xFFF;
+		now.header_revision = 6, now.extended = 0x017F;
 	}
 	settle();
 }

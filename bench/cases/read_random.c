@@ -114,12 +114,13 @@ static void random_parts(void)
 		now.x = now.h + below(20);
 		now.e = 20 + below(40);
 	}
-	now.L = below(3) == 0 ? 72 + below(185) : 72 + below(9);
+	draw_revision();
+	if (below(3) == 0)
+		now.L = 80 + below(177);
 	now.guard = below(2) == 0 ? 24 + below(20) : 0;
 	now.n = below(7);
 	now.more_section = below(10);
 	now.more_file = below(10);
-	now.header_revision = 3 + below(253);
 	now.component = 1 + below(4);
 	now.low12 = below(4096);
 	now.identity = below(UINT64_C(1) << 47) * 131071;
@@ -150,6 +151,7 @@ static void random_nudge(void)
 		{ spot.H + 4, 4 }, { spot.H + 24, 4 }, { spot.H + 28, 4 }, { spot.H + 34, 2 },
 		{ spot.H + 36, 4 }, { spot.H + 40, 4 }, { spot.g + 4, 4 }, { spot.p + 8, 4 },
 		{ spot.p + 12, 4 }, { spot.p + 15, 1 }, { spot.H + 36, 4 }, { spot.p + 8, 4 },
+		{ spot.H + 11, 1 }, { spot.H + 76, 2 },
 	};
 	const size_t i = (size_t)below(COUNT(at));
 	const uint64_t by = UINT64_C(1) << below(6);

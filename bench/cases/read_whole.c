@@ -65,6 +65,8 @@ void whole_header_length(void)
 		now.n = 1;
 		now.L = L;
 		now.guard = L % 5 == 0 ? 24 : 0;
+		if (L >= 80 && L % 8 < 5)
+			now.header_revision = 6, now.extended = L * 257;
 		if (L % 4 == 1 || L < 78 || L > 252 || below(8) == 0)
 			anew(0);
 	}
@@ -76,9 +78,12 @@ void whole_header_numbers(void)
 	static const uint64_t revision[] = { 3, 4, 5, 6, 7, 8, 15, 16, 31, 63, 64,
 					     126, 127, 128, 129, 131, 200, 254, 255 };
 	static const uint64_t low[] = { 0, 1, 2, 0x800, 0x0FF, 0xF00, 0x400, 0xFFF };
-	start(0);
+	start(3);
 	for (size_t i = 0; i < COUNT(revision); i++)
 		hit(spot.H + 11, 1, revision[i], 0);
+	start(0);
+	for (size_t i = 0; i < COUNT(revision); i++)
+		hit(spot.H + 11, 1, revision[i], revision[i] < 6 ? 0 : 5);
 	for (unsigned k = 0; k < PLANS; k++) {
 		start(k);
 		for (size_t i = 0; i < COUNT(low); i++)

@@ -141,8 +141,8 @@ static void sheet_rows(unsigned k)
 	write_draft();
 	show_apply(now.length, draft.length, 0, 0);
 	show_move(now.length, 0x00345800, 18, 0);
-	put_sheet(14, 1, 1);
-	show_apply(now.length, draft.length, 15, 0);
+	put_sheet(14, 1, get_sheet(14, 1) ^ 1);
+	show_apply(now.length, draft.length, 16, 0);
 	show_move(now.length, highest_base(), 0, 0);
 }
 
@@ -192,6 +192,12 @@ void apply_part(void)
 	sheet_wrap(7);
 	sheet_together(1);
 	sheet_together(6);
+	sheet_numbers(1);
+	sheet_numbers(5);
+	sheet_older();
+	sheet_below();
+	sheet_number_order(2);
+	sheet_number_order(3);
 	sheet_refused(0);
 	sheet_refused(3);
 	sheet_refused(6);

@@ -8,7 +8,7 @@
 
 /* "The release sheet": its contents; the bodies' bytes follow a rule of position and flavour. */
 struct draft {
-	uint64_t identity, revision, m, zero, length, flavour;
+	uint64_t identity, revision, extended, m, length, flavour;
 	struct {
 		uint64_t offset, length, body;
 	} field[MOST_FIELDS];
@@ -38,5 +38,11 @@ void sheet_identity(unsigned k);
 void sheet_bounds(unsigned k);
 void sheet_wrap(unsigned k);
 void sheet_together(unsigned k);
+
+/* sheet_extended.c */
+void sheet_numbers(unsigned k);
+void sheet_older(void);
+void sheet_below(void);
+void sheet_number_order(unsigned k);
 
 #endif

@@ -12,10 +12,12 @@ void sheet_start(unsigned k)
 	draft_start();
 }
 
-/* Refusal 16: a sheet of the planned image's identity and revision. */
+/* Refusal 16: a sheet of the planned image's identity, revision and extended number. */
 void draft_start(void)
 {
-	draft = (struct draft){ .identity = now.identity, .revision = now.revision, .length = 16 };
+	draft = (struct draft){
+		.identity = now.identity, .revision = now.revision, .extended = extended_number(), .length = 16,
+	};
 }
 
 /* Refusal 15: where each body stands, and how long the sheet is with them. */
@@ -57,7 +59,7 @@ void write_draft(void)
 	put_sheet(0, 8, draft.identity);
 	put_sheet(8, 4, draft.revision);
 	put_sheet(12, 2, draft.m);
-	put_sheet(14, 2, draft.zero);
+	put_sheet(14, 2, draft.extended);
 	for (uint64_t i = 0; i < draft.m; i++) {
 		put_sheet(16 + 8 * i, 4, draft.field[i].offset);
 		put_sheet(20 + 8 * i, 2, draft.field[i].length);

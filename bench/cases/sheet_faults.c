@@ -19,18 +19,18 @@ void sheet_cut(void)
 		show_apply(now.length, other, other == 16 ? 0 : 15, 0);
 }
 
-/* Refusal 15: the count and the two zero bytes. */
+/* Refusal 15: the count; #102: not the two bytes after it. */
 void sheet_heads(unsigned k)
 {
-	static const uint64_t zero[] = { 1, 0x80, 0xFF, 0x0100, 0x8000, 0xFF00, 0xFFFF };
+	static const uint64_t number[] = { 1, 0x80, 0xFF, 0x0100, 0x8000, 0xFF00, 0xFFFF };
 	static const uint64_t m[] = { 0, 1, 3, 5, 256, 257, 260, 0x8004, 65535 };
 	sheet_start(k);
 	draft_standard();
-	for (size_t i = 0; i < COUNT(zero); i++) {
-		draft.zero = zero[i];
-		apply_draft(15);
+	for (size_t i = 0; i < COUNT(number); i++) {
+		draft.extended = extended_number() ^ number[i];
+		apply_draft(16);
 	}
-	draft.zero = 0;
+	draft.extended = extended_number();
 	for (size_t i = 0; i < COUNT(m); i++) {
 		build();
 		write_draft();
@@ -201,7 +201,7 @@ void sheet_together(unsigned k)
 		const unsigned number = set / 8 == 0 ? 0 : 14 - (set + k) % 14;
 		sheet_start(k);
 		draft_standard();
-		draft.zero = set % 2 == 0 ? 0 : 0x0100;
+		draft.field[3].body += set % 2;
 		draft.revision ^= set / 2 % 2 == 0 ? 0 : 0x10000;
 		draft.field[0].offset -= set / 4 % 2 == 0 ? 0 : 1;
 		write_draft();

@@ -29,17 +29,6 @@ answer() {
 	well_told "$file"
 }
 
-# changed FROM TO POSITION VALUE..: a copy with these bytes, in decimal
-changed() {
-	cp "$1" "$2"
-	into=$2
-	shift 2
-	while [ $# -gt 1 ]; do
-		poke "$into" "$1" "\\$(printf %o "$2")"
-		shift 2
-	done
-}
-
 # one to three bytes of the headers and tables that no sum guards, or of the region's header; values at their edges or anything
 draw='function value() { return rand() < 0.5 ? int(rand() * 256) : substr("000001015127128255", 3 * int(rand() * 6) + 1, 3) + 0 }
 BEGIN { srand(seed)

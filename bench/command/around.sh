@@ -49,7 +49,7 @@ try_any_bytes() {
 	passed
 }
 
-# the page speaks of every subcommand, option and refusal that the help has, and of this version
+# the page speaks of every subcommand, option and refusal that the help has, of every line of a reading, and of this version
 try_man_page() {
 	page=$root/command/pajurenda.1
 	what='the man page'
@@ -62,6 +62,10 @@ try_man_page() {
 		grep -q -e "^.B[RI]* \(pajurenda \)*$word" -e "[ (]$word\$" -e "^.BR -h \", \" $word" "$work/page" || fail "nothing of $word"
 		passed
 	done <"$work/named"
+	while read -r word _; do
+		grep -q "^.BR* $word\( ,\)*\$" "$work/page" || fail "nothing of the reading's $word"
+		passed
+	done <"$work/wanted_reading"
 	if command -v groff >/dev/null; then
 		groff -man -Tascii -ww "$page" >/dev/null 2>"$work/err" || fail "groff"
 		says

@@ -152,5 +152,16 @@ poked() {
 	done
 }
 
+# changed FROM TO POSITION VALUE..: a copy with these bytes, in decimal
+changed() {
+	cp "$1" "$2"
+	into=$2
+	shift 2
+	while [ $# -gt 1 ]; do
+		poke "$into" "$1" "\\$(printf %o "$2")"
+		shift 2
+	done
+}
+
 # sparse FILE LENGTH: a file of zeros that takes no room
 sparse() { dd if=/dev/null of="$1" bs=1 seek="$2" 2>/dev/null; }

@@ -87,7 +87,9 @@ static void try_fields(void)
 	for (size_t i = 0; i < sizeof answer; i++)
 		answer[i] = (uint8_t)(i + 1);
 	check(pajurenda_field(answer, PAJURENDA_READ_NUMBER) == 0x0807060504030201u, "the first field");
-	check(pajurenda_field(answer, PAJURENDA_READ_END) == 0x5857565554535251u, "the last field");
+	check(pajurenda_field(answer, PAJURENDA_READ_END) == 0x5857565554535251u, "the field before the last");
+	check(pajurenda_field(answer, PAJURENDA_READ_EXTENDED) == 0x605F5E5D5C5B5A59u, "the last field");
+	check(sizeof answer == 96, "the length of a reading");
 	check(pajurenda_identity(answer) == answer + 32, "the identity");
 	check(pajurenda_number(answer, 0) == 0 && pajurenda_number(answer, 3) == 0x030201, "a number");
 	try_signed(0, 0);
@@ -97,6 +99,30 @@ static void try_fields(void)
 	try_signed((uint64_t)0 - 4293394432u, -4293394432);
 	try_signed((uint64_t)INT64_MAX, INT64_MAX);
 	try_signed((uint64_t)INT64_MAX + 1, INT64_MIN);
+}
+
+/* The parts of a version from its two numbers. */
+static void try_parts(uint64_t revision, uint64_t extended, const char *version)
+{
+	char parts[64];
+	snprintf(parts, sizeof parts, "%u.%u.%u.%u", pajurenda_image_major(revision), pajurenda_image_minor(revision),
+		 pajurenda_image_revision(revision, extended), pajurenda_image_build(revision, extended));
+	check(strcmp(parts, version) == 0, version);
+}
+
+/* Each byte of them alone, all of them different, and all full. */
+static void try_image_version(void)
+{
+	try_parts(0, 0, "0.0.0.0");
+	try_parts(0x01020304, 0, "1.2.3.4");
+	try_parts(0xFF000000, 0, "255.0.0.0");
+	try_parts(0x00FF0000, 0, "0.255.0.0");
+	try_parts(0x0000FF00, 0, "0.0.255.0");
+	try_parts(0x000000FF, 0, "0.0.0.255");
+	try_parts(0, 0x00FF, "0.0.0.65280");
+	try_parts(0, 0xFF00, "0.0.65280.0");
+	try_parts(0x01020304, 0x0506, "1.2.1283.1540");
+	try_parts(0xFFFFFFFF, 0xFFFF, "255.255.65535.65535");
 }
 
 /* A place of the list: kind and position. */
@@ -125,6 +151,7 @@ int main(void)
 	try_numbers();
 	try_handoff();
 	try_fields();
+	try_image_version();
 	try_place(0, 0, 0);
 	try_place(16777215, 0, 16777215);
 	try_place(16777216, 1, 0);

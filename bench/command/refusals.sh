@@ -6,11 +6,12 @@ rule_volume="the volume's header must have the mark _FVH, an even length h from 
 V within the file"
 rule_file="the volume's first file must be 912740BE-2284-4734-B971-84B027353F0C, not large, its header's sum 0, its size s 28 \
 or more, and lie within V"
-rule_header="the section must start with FSPH, of revision 3 or more and a length L from 72 to 256, with 4+L within the section's size"
+rule_header="the section must start with FSPH, of revision 3 or more and a length L from 72 (from revision 6 on, 80) to 256, with 4+L \
+within the section's size"
 rule_table="a patch table FSPP, of revision 1 and at most 1024 entries, must follow the header or its FSPE of \
 24 bytes or more, within the section"
-rule_sheet="a sheet must have 16 to 65535 bytes: contents (bytes 14 and 15 zero, at most 256 entries in order, none empty), then bodies \
-without a gap or a rest"
+rule_sheet='a sheet must have 16 to 65535 bytes: contents (at most 256 entries in order, none empty), then bodies without a gap or a rest'
+rule_identity="the sheet must be for the image's identity, revision and extended number"
 rule_base='must be a multiple of 4096, base plus length at most 2^32'
 
 # image FILE POSITION OCTAL..: the vendor's image with bytes put into it
@@ -207,20 +208,18 @@ refuses_sheet() { keeps "$o" values "$1" "$2" "$3" apply v "$2" "$o/out"; }
 
 # odd_entry LENGTH M INDEX OFFSET END LENGTH BODY RUNNING: 15 of the file b, which names the first entry that does not follow
 odd_entry() {
-	refuses_sheet 15 b "the file has $1 bytes, m $2, bytes 14 and 15 are 0x0000, entry $3 (counted from 0) has offset $4 \
+	refuses_sheet 15 b "the file has $1 bytes, m $2, entry $3 (counted from 0) has offset $4 \
 (the one before ends at $5), length $6, body at $7 (the one before ends at $8)"
 }
 
 try_sheets() {
 	cp "$work/sheet" good
 	head -c 25 good >b
-	keeps "$o" refuses 15 b "$rule_sheet: the file has 25 bytes, m 1, bytes 14 and 15 are 0x0000, the last body ends at 26" apply v b "$o/out"
+	keeps "$o" refuses 15 b "$rule_sheet: the file has 25 bytes, m 1, the last body ends at 26" apply v b "$o/out"
 	refuses_sheet 15 "$work/empty" 'the file has 0 bytes'
 	head -c 15 good >b
 	refuses_sheet 15 b 'the file has 15 bytes'
-	refuses_sheet 15 "$work/above" 'the file has more than 16777216 bytes, m 0, bytes 14 and 15 are 0x0000, the last body ends at 16'
-	poked good b 14 '\001\002'
-	refuses_sheet 15 b 'the file has 26 bytes, m 1, bytes 14 and 15 are 0x0201, the last body ends at 26'
+	refuses_sheet 15 "$work/above" 'the file has more than 16777216 bytes, m 0, the last body ends at 16'
 	poked good b 20 '\000'
 	odd_entry 26 1 0 40 0 0 24 24
 	poked good b 22 '\031'
@@ -228,18 +227,19 @@ try_sheets() {
 	poked good b 12 '\002'
 	odd_entry 26 2 0 40 0 2 24 32
 	poked good b 12 '\002' 22 '\040'
-	refuses_sheet 15 b 'the file has 26 bytes, m 2, bytes 14 and 15 are 0x0000, entry 1 (counted from 0) is cut short'
+	refuses_sheet 15 b 'the file has 26 bytes, m 2, entry 1 (counted from 0) is cut short'
 	printf 'TREAT-01\004\003\002\001\002\000\000\000\050\000\000\000\002\000\040\000\051\000\000\000\001\000\042\000abc' >b
 	odd_entry 35 2 1 41 42 1 34 34
 }
 
 try_identities() {
-	same_image='v is 54524541542D3031 "TREAT-01" revision 0x01020304'
+	numbers='revision 0x01020304 extended 0x0000 version 1.2.3.4'
+	same_image="v is 54524541542D3031 \"TREAT-01\" $numbers"
 	poked good b 11 '\002'
-	rule="the sheet must be for the image's identity and revision"
-	keeps "$o" refuses 16 b "$rule: the sheet is for 54524541542D3031 \"TREAT-01\" revision 0x02020304, $same_image" apply v b "$o/out"
+	keeps "$o" refuses 16 b "$rule_identity: the sheet is for 54524541542D3031 \"TREAT-01\" revision 0x02020304 extended 0x0000 \
+version 2.2.3.4, $same_image" apply v b "$o/out"
 	poked good b 7 '\000'
-	refuses_sheet 16 b "the sheet is for 54524541542D3000 revision 0x01020304, $same_image"
+	refuses_sheet 16 b "the sheet is for 54524541542D3000 $numbers, $same_image"
 }
 
 # the first entry that does not fit is named; the settings part is 32 to 399
@@ -302,7 +302,7 @@ try_huge() {
 	values 1 "$work/huge" "$long" audit "$work/huge" s
 	values 19 "$work/huge" "$long, v has 8192" audit v "$work/huge"
 	keeps "$o" values 1 "$work/huge" "$long" move "$work/huge" 0 "$o/out"
-	refuses_sheet 15 "$work/huge" "$long, m 0, bytes 14 and 15 are 0x0000, the last body ends at 16"
+	refuses_sheet 15 "$work/huge" "$long, m 0, the last body ends at 16"
 	rm "$work/huge"
 }
 

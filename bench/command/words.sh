@@ -33,6 +33,9 @@ try_help() {
 		done
 	done
 	grep -qF -e --words "$work/help.read" || fail "read's help has no --words"
+	for name in read apply; do
+		grep -qF -e 'extended number' "$work/help.$name" || fail "$name's help has no extended number"
+	done
 	grep -qF -e --ranges "$work/help.audit" || fail "audit's help has no --ranges"
 	grep -qF -e --json "$work/help.handoff" || fail "handoff's help has no --json"
 }

@@ -92,7 +92,7 @@ static void damage_field(void)
 		{ f + below(16), 1 }, { f + 16, 1 }, { f + 17, 1 }, { f + 19, 1 }, { f + 20, 3 },
 		{ f + 23, 1 }, { f + 24, 3 }, { f + 27, 1 }, { H, 4 }, { H + 4, 4 }, { H + 11, 1 },
 		{ H + 12, 4 }, { H + 16, 8 }, { H + 24, 4 }, { H + 28, 4 }, { H + 34, 2 },
-		{ H + 36, 4 }, { H + 40, 4 }, { g, 4 }, { g + 4, 4 }, { p, 4 }, { p + 4, 2 },
+		{ H + 36, 4 }, { H + 40, 4 }, { H + 76, 2 }, { g, 4 }, { g + 4, 4 }, { p, 4 }, { p + 4, 2 },
 		{ p + 6, 1 }, { p + 8, 4 }, { c + 6, 1 }, { c + 7, 1 },
 	};
 	const uint64_t i = below(sizeof fields / sizeof fields[0]);
@@ -111,7 +111,7 @@ static void damage_edge(void)
 		{ in, 3, 76 }, { in, 3, 4 + plan.L }, { in, 3, plan.g + 4 - in },
 		{ in, 3, plan.g + 8 - in }, { in, 3, plan.p + 12 - in }, { in, 3, plan.E - in },
 		{ in, 3, plan.s - 24 }, { H + 4, 4, 72 }, { H + 4, 4, 256 },
-		{ H + 4, 4, plan.S - 4 }, { H + 11, 1, 3 }, { H + 24, 4, length[IMAGE] },
+		{ H + 4, 4, plan.S - 4 }, { H + 4, 4, 80 }, { H + 11, 1, 3 }, { H + 11, 1, 6 }, { H + 24, 4, length[IMAGE] },
 		{ H + 28, 4, TWO32 - plan.length }, { H + 36, 4, plan.E },
 		{ H + 36, 4, plan.length - plan.z }, { H + 40, 4, 32 }, { H + 40, 4, 65536 },
 		{ H + 40, 4, plan.length - plan.c }, { plan.g + 4, 4, 24 },
@@ -217,6 +217,8 @@ static void build_image(uint64_t at_least, bool right)
 	plan_drawn(&plan);
 	if (right && plan.guard < 24)
 		plan.guard = 0;
+	if (right && plan.header_revision >= 6 && plan.L < 80)
+		plan.L = 80;
 	lay_out(&plan, at_least);
 	plan.base = drawn_base(plan.length);
 	length[IMAGE] = (size_t)plan.length;
@@ -347,6 +349,19 @@ static void damage_sheet(uint64_t m)
 	}
 }
 
+/* The extended number for a sheet: the image's, now and then one half of it another, none, or what stands at H+76. */
+static uint64_t drawn_extended(void)
+{
+	const uint64_t right = extended_number(&plan);
+	switch (below(16)) {
+	case 0: return right ^ (1 + below(255));
+	case 1: return right ^ (1 + below(255)) << 8;
+	case 2: return 0;
+	case 3: return plan.H + 78 <= length[IMAGE] ? get_number(model[IMAGE], plan.H + 76, 2) : below(65536);
+	default: return right;
+	}
+}
+
 /* A sheet for the image, whole or damaged. */
 static void draw_sheet(void)
 {
@@ -357,7 +372,8 @@ static void draw_sheet(void)
 		: draw_entries(kind == 0 ? 257 : kind < 3 ? 256 : below(6));
 	put_number(sheet, 0, 8, plan.identity);
 	put_number(sheet, 8, 4, plan.revision);
-	put_number(sheet, 12, 4, m);
+	put_number(sheet, 12, 2, m);
+	put_number(sheet, 14, 2, drawn_extended());
 	length[OTHER] = (size_t)draw_bodies(m);
 	if (below(2) == 0)
 		damage_sheet(m);
@@ -490,8 +506,8 @@ static uint32_t model_read(void)
 {
 	const struct second_reading r = second_read(model[IMAGE], length[IMAGE]);
 	const uint64_t fields[] = { r.number, r.index, r.H, r.component, r.image_identity,
-				    r.revision, r.base, r.c, r.z, r.n, r.E };
-	put_fields(model[ANSWER], fields, 11);
+				    r.revision, r.base, r.c, r.z, r.n, r.E, r.extended };
+	put_fields(model[ANSWER], fields, 12);
 	return (uint32_t)r.number;
 }
 

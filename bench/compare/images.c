@@ -52,8 +52,9 @@ void plan_plain(struct plan *plan)
 {
 	memset(plan, 0, sizeof *plan);
 	plan->h = 72;
-	plan->L = 72;
-	plan->header_revision = 3;
+	plan->L = 80;
+	plan->header_revision = 6;
+	plan->extended = 0x0102;
 	plan->component = 1;
 	plan->identity = UINT64_C(0x31302D5441455254);
 	plan->revision = 0x01020304;
@@ -78,6 +79,17 @@ static uint64_t drawn_size(void)
 	return 32 + below(kind < 6 ? 3 : 300);
 }
 
+/* A header revision about 3 and 6, mostly with an L that it allows, and a number for H+76. */
+static void draw_revision(struct plan *plan)
+{
+	static const uint64_t revision[] = { 3, 4, 5, 6, 7, 8, 255, 6 };
+	plan->header_revision = revision[below(8)];
+	plan->L = below(8) == 0 ? 249 + below(8) : 72 + below(25);
+	if (plan->header_revision >= 6 && plan->L < 80 && below(8) != 0)
+		plan->L += 8;
+	plan->extended = below(8) == 0 ? 0 : below(65536);
+}
+
 /* A plan with every part drawn. */
 void plan_drawn(struct plan *plan)
 {
@@ -87,11 +99,10 @@ void plan_drawn(struct plan *plan)
 		plan->x = plan->h + below(9);
 		plan->e = 20 + below(12);
 	}
-	plan->L = below(8) == 0 ? 249 + below(8) : 72 + below(12);
+	draw_revision(plan);
 	plan->guard = below(16) == 0 ? 22 + below(3) : below(2) * (24 + below(9));
 	plan->more_section = below(6);
 	plan->more_file = below(6);
-	plan->header_revision = 3 + below(253);
 	plan->component = 1 + below(4);
 	plan->low12 = below(4096);
 	plan->identity = any_number();
@@ -171,6 +182,12 @@ void lay_out(struct plan *plan, uint64_t at_least)
 	lay_entries(plan);
 }
 
+/* #102: what a sheet for the planned image carries. */
+uint64_t extended_number(const struct plan *plan)
+{
+	return plan->header_revision >= 6 ? plan->extended : 0;
+}
+
 /* A legal base: any, the lowest or the highest. */
 uint64_t drawn_base(uint64_t length)
 {
@@ -210,6 +227,8 @@ static void put_header(const struct plan *plan, uint8_t *image)
 	put_number(image, plan->H + 34, 2, plan->component << 12 | plan->low12);
 	put_number(image, plan->H + 36, 4, plan->c);
 	put_number(image, plan->H + 40, 4, plan->z);
+	if (plan->L >= 78)
+		put_number(image, plan->H + 76, 2, plan->extended);
 }
 
 /* FSPE, the patch table and its entries. */

@@ -11,7 +11,7 @@
 /* What an image is built from, in the letters of document 01; guard is the length of FSPE, or 0. */
 struct plan {
 	uint64_t length, V, h, x, e, L, guard, more_section, more_file;
-	uint64_t header_revision, component, low12, identity, revision, base;
+	uint64_t header_revision, component, low12, identity, revision, extended, base;
 	uint64_t n, before, gap, c, z;
 	uint64_t f, s, S, H, g, p, E, end;
 	uint64_t place[MOST_ENTRIES];
@@ -32,6 +32,9 @@ void plan_drawn(struct plan *plan);
 
 /* The layout for at least a length, with the words spread up to the end. */
 void lay_out(struct plan *plan, uint64_t at_least);
+
+/* The extended number of the planned image: 0 below header revision 6. */
+uint64_t extended_number(const struct plan *plan);
 
 /* A legal base for an image of some length. */
 uint64_t drawn_base(uint64_t length);

@@ -17,7 +17,7 @@ uint32_t pajurenda_read(const uint8_t *image, size_t length,
 		return PAJURENDA_SHORT;
 	const struct second_reading r = second_read(image, length);
 	const uint64_t fields[] = { r.number, r.index, r.H, r.component, r.image_identity,
-				    r.revision, r.base, r.c, r.z, r.n, r.E };
+				    r.revision, r.base, r.c, r.z, r.n, r.E, r.extended };
 	put_fields(answer, fields, FIELDS(fields));
 	return (uint32_t)r.number;
 }

@@ -221,7 +221,8 @@ static void make_sheet(void)
 {
 	put_number(sheet, 0, 8, plan.identity);
 	put_number(sheet, 8, 4, plan.revision);
-	put_number(sheet, 12, 4, FIELDS_SET);
+	put_number(sheet, 12, 2, FIELDS_SET);
+	put_number(sheet, 14, 2, extended_number(&plan));
 	for (uint64_t i = 0; i < FIELDS_SET; i++) {
 		put_number(sheet, 16 + 8 * i, 4, 32 + 4 * i);
 		put_number(sheet, 20 + 8 * i, 2, 2);

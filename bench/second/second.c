@@ -14,6 +14,7 @@ struct letters {
 	uint64_t h, V, x, e;
 	uint64_t f, s, section;
 	uint64_t H, L;
+	uint64_t extended;
 	uint64_t component, base;
 	uint64_t p, n, E;
 	uint64_t c, z;
@@ -144,6 +145,17 @@ static bool refuse_section(struct letters *w)
 	return w->image[w->f + 27] != 0x19 || w->section < 76 || w->section > w->s - 24;
 }
 
+/* Refusal 5, #102: from revision 6 on the header holds the extended number; below, no byte at H+76 is looked at. */
+static bool refuse_newer(struct letters *w)
+{
+	if (w->image[w->H + 11] < 6)
+		return false;
+	if (w->L < 80)
+		return true;
+	w->extended = number_at(w, w->H + 76, 2);
+	return false;
+}
+
 /* Refusal 5. */
 static bool refuse_header(struct letters *w)
 {
@@ -151,7 +163,9 @@ static bool refuse_header(struct letters *w)
 	if (!stands(w, w->H, "FSPH") || w->image[w->H + 11] < 3)
 		return true;
 	w->L = number_at(w, w->H + 4, 4);
-	return w->L < 72 || w->L > 256 || 4 + w->L > w->section;
+	if (w->L < 72 || w->L > 256 || 4 + w->L > w->section)
+		return true;
+	return refuse_newer(w);
 }
 
 /* Refusal 6. */
@@ -305,21 +319,38 @@ static bool refuse_overlap(struct letters *w)
 	return false;
 }
 
+/* Demand 2, #102: what makes an image the one that a sheet is for. */
+struct identity {
+	uint64_t image, revision, extended;
+};
+
+/* #102: the identity of an image past refusal 5. */
+static struct identity identity_of(const struct letters *w)
+{
+	return (struct identity){
+		.image = number_at(w, w->H + 16, 8),
+		.revision = number_at(w, w->H + 12, 4),
+		.extended = w->extended,
+	};
+}
+
 /* "An accepted reading gives". */
 static struct second_reading accepted(const struct letters *w)
 {
+	const struct identity identity = identity_of(w);
 	return (struct second_reading){
 		.number = 0,
 		.index = 0,
 		.H = w->H,
 		.component = w->component,
-		.image_identity = number_at(w, w->H + 16, 8),
-		.revision = number_at(w, w->H + 12, 4),
+		.image_identity = identity.image,
+		.revision = identity.revision,
 		.base = w->base,
 		.c = w->c,
 		.z = w->z,
 		.n = w->n,
 		.E = w->E,
+		.extended = identity.extended,
 	};
 }
 
@@ -434,14 +465,25 @@ static bool refuse_sheet(struct sheet *s)
 	if (s->length < 16 || s->length > 65535)
 		return true;
 	s->m = little(s->bytes, 12, 2);
-	return s->m > 256 || little(s->bytes, 14, 2) != 0 || refuse_fields(s);
+	return s->m > 256 || refuse_fields(s);
 }
 
-/* Refusal 16. */
+/* #102: the identity that a sheet carries; bytes 14..15 are 0 in an older one. */
+static struct identity sheet_identity(const struct sheet *s)
+{
+	return (struct identity){
+		.image = little(s->bytes, 0, 8),
+		.revision = little(s->bytes, 8, 4),
+		.extended = little(s->bytes, 14, 2),
+	};
+}
+
+/* Refusal 16: each of the three parts. */
 static bool refuse_identity(const struct letters *w, const struct sheet *s)
 {
-	return little(s->bytes, 0, 8) != number_at(w, w->H + 16, 8) ||
-	       little(s->bytes, 8, 4) != number_at(w, w->H + 12, 4);
+	const struct identity image = identity_of(w), other = sheet_identity(s);
+	return other.image != image.image || other.revision != image.revision ||
+	       other.extended != image.extended;
 }
 
 /* Refusal 17. */

@@ -17,6 +17,7 @@ struct second_reading {
 	uint64_t z;
 	uint64_t n;
 	uint64_t E;
+	uint64_t extended;
 };
 
 /* The move is the new base minus the old one; 0 where refused. */

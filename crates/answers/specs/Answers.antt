@@ -34,10 +34,11 @@ unfoldable pub twos : ℤ → ℕ
 twos (pos n) = n
 twos (negsuc n) = 2 ^ 64 - suc n
 
--- a reading: number, index, H, component, image identity, revision, base, c, z, n, E
+-- a reading: number, index, H, component, image identity, revision, base, c, z, n, E, extended number
 abbrev pub readFields : Reading → List ℕ
 readFields r =
-    r .number ∷ r .index ∷ r .H ∷ r .component ∷ r .identity .image ∷ r .identity .revision ∷ r .base ∷ r .c ∷ r .z ∷ r .n ∷ r .E ∷ []
+    r .number ∷ r .index ∷ r .H ∷ r .component ∷ r .identity .image ∷ r .identity .revision ∷ r .base ∷ r .c ∷ r .z ∷ r .n ∷ r .E
+    ∷ r .identity .extended ∷ []
 
 -- a move: number, index, how far
 abbrev pub moveFields : Moved → List ℕ

@@ -26,7 +26,7 @@ fn write_fields(answer: &mut [u8], fields: &[u64])
 }
 
 pub fn write_reading(answer: &mut [u8], r: Reading)
-    requires { ⌜ 88 ≤ length (now answer) ⌝ }
+    requires { ⌜ 96 ≤ length (now answer) ⌝ }
     ensures { λ _. ⌜ now (answer .exit) ≡ putAll 8 (now (answer .entry)) 0 (readFields r) ⌝ }
 {
     let identity = r.identity;
@@ -42,6 +42,7 @@ pub fn write_reading(answer: &mut [u8], r: Reading)
         r.z as u64,
         r.n as u64,
         r.E as u64,
+        identity.extended as u64,
     ];
     write_fields(answer, &fields);
 }

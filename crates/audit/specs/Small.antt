@@ -45,7 +45,7 @@ r =
       index = 0;
       H = 100;
       component = 1;
-      identity = record { image = 0x31302D5441455254; revision = 0x01020304 };
+      identity = record { image = 0x31302D5441455254; revision = 0x01020304; extended = 0 };
       base = 0xFFF80000;
       c = 188;
       z = 48;

@@ -45,6 +45,7 @@ fn show_reading(r: image::Reading) {
     let k = r.identity;
     names(k);
     places(r);
+    field(k.extended as u64);
     line();
 }
 

@@ -11,6 +11,7 @@ use lib.Seq.{ext-getD, getD-take, getD-drop, length-take-le}
 use Rattle.facts.specs.Fact.{Holds}
 use Rattle.words.specs.Le.{le, Bytes}
 use Rattle.words.specs.LeLaws.{le-lt}
+use Rattle.header.specs.HeaderLaws.{extended-small}
 use Rattle.image.specs.declared.Identity.{Identity}
 use Rattle.image.specs.declared.Reading.{Reading}
 use Rattle.image.specs.Reading.{identityAt, rebased, reading}
@@ -70,6 +71,12 @@ module _ (xs ys : List ℕ) (bx : Bytes xs) (by : Bytes ys) (ok : reading xs .nu
       let i = ap (λ (k : Identity). k .revision) (guaranteed xs ok .identity-is) in
       omega (arith, le-lt 4 xs (reading xs .H + 12) bx)
 
+  extended : reading xs .identity .extended < 256 ^ 2
+  unfolding identityAt
+  extended =
+      let i = ap (λ (k : Identity). k .extended) (guaranteed xs ok .identity-is) in
+      omega (arith, extended-small xs (reading xs .H) bx)
+
   names-it : (s : List ℕ) → Holds (sameIdentity (sheetIdentity s) (reading xs .identity))
       → Holds (sameIdentity (sheetIdentity s) (reading ms .identity))
   names-it s h = rw reads h
@@ -101,10 +108,10 @@ module _ (xs ys : List ℕ) (bx : Bytes xs) (by : Bytes ys) (ok : reading xs .nu
     s = whole (reading xs .identity) part
 
     sound : Sound s (reading xs .z)
-    sound = whole-sound (reading xs .identity) part image revision (reading xs .z) some (omega (arith, guaranteed xs ok)) part-long
+    sound = whole-sound (reading xs .identity) part image revision extended (reading xs .z) some (omega (arith, guaranteed xs ok)) part-long
 
     taken : (applying ms s .number ≡ 0) × (appliedImage ms s ≡ setBy ms (reading ms) s)
-    taken = takes ms s fine (rw reads sound) (names-it s (whole-names (reading xs .identity) part image revision))
+    taken = takes ms s fine (rw reads sound) (names-it s (whole-names (reading xs .identity) part image revision extended))
 
     outside : (k : ℕ) → (k < reading xs .c + 32) ⊎ (reading xs .c + reading xs .z ≤ k) → getD (setBy ms (reading ms) s) k 0 ≡ getD ys k 0
     outside k out = set-outside ms (reading ms) s (guaranteed ms fine) (rw reads sound) k (rw reads out) ∙ sym (e .same k out)
@@ -113,15 +120,16 @@ module _ (xs ys : List ℕ) (bx : Bytes xs) (by : Bytes ys) (ok : reading xs .nu
         → getD (setBy ms (reading ms) s) (reading xs .c + 32 + j) 0 ≡ getD ys (reading xs .c + 32 + j) 0
     unfolding bodyAt
     inside j h =
-        let n = whole-count (reading xs .identity) part image revision in
-        let at = whole-offset (reading xs .identity) part image revision (reading xs .z) some (omega (arith, guaranteed xs ok)) part-long in
-        let wide = whole-size (reading xs .identity) part image revision (reading xs .z) some (omega (arith, guaranteed xs ok)) part-long in
+        let n = whole-count (reading xs .identity) part image revision extended in
+        let most : reading xs .z ≤ 65536 = omega (arith, guaranteed xs ok) in
+        let at = whole-offset (reading xs .identity) part image revision extended (reading xs .z) some most part-long in
+        let wide = whole-size (reading xs .identity) part image revision extended (reading xs .z) some most part-long in
         let set : getD (setBy ms (reading ms) s) (reading ms .c + offset s 0 + j) 0 ≡ getD s (bodyAt s 0 + j) 0 =
         set-in ms (reading ms) s (guaranteed ms fine) (rw reads sound) 0 j (omega arith) (omega arith) in
         let from : bodyAt s 0 + j ≡ 24 + j = omega arith in
         let region : reading ms .c ≡ reading xs .c = ap (λ (r : Reading). r .c) reads in
         let to : reading ms .c + offset s 0 + j ≡ reading xs .c + 32 + j = omega arith in
-        rw to at set ∙ rw from (whole-byte (reading xs .identity) part image revision j) ∙ part-byte j h
+        rw to at set ∙ rw from (whole-byte (reading xs .identity) part image revision extended j) ∙ part-byte j h
 
     one-sheet : Makes xs ys base s
     one-sheet =
@@ -155,8 +163,8 @@ module _ (xs ys : List ℕ) (bx : Bytes xs) (by : Bytes ys) (ok : reading xs .nu
 
     accepted : (applying ms empty .number ≡ 0) × (appliedImage ms empty ≡ setBy ms (reading ms) empty)
     accepted =
-        takes ms empty fine (bare-sound (reading xs .identity) [] image revision (reading ms .z))
-        (names-it empty (bare-names (reading xs .identity) [] image revision))
+        takes ms empty fine (bare-sound (reading xs .identity) [] image revision extended (reading ms .z))
+        (names-it empty (bare-names (reading xs .identity) [] image revision extended))
 
     no-sheet : Makes xs ys base empty
     no-sheet =
@@ -164,8 +172,8 @@ module _ (xs ys : List ℕ) (bx : Bytes xs) (by : Bytes ys) (ok : reading xs .nu
           bytes = bare-bytes (reading xs .identity) [];
           moves = goes;
           applies = accepted .0;
-          is = applied-empty ms empty (accepted .0) (bare-count (reading xs .identity) [] image revision) ∙ ext-getD 0 ms ys (sym long)
-              (λ k h. sym (e .same k (either k)));
+          is = applied-empty ms empty (accepted .0) (bare-count (reading xs .identity) [] image revision extended)
+              ∙ ext-getD 0 ms ys (sym long) (λ k h. sym (e .same k (either k)));
         }
       where
         either : (k : ℕ) → (k < reading xs .c + 32) ⊎ (reading xs .c + reading xs .z ≤ k)

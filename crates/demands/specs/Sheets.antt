@@ -34,32 +34,34 @@ module _ (i : Identity) (part : List ℕ) where
 
   -- one entry
   pub whole : List ℕ
-  whole = number 8 (i .image) ++ (number 4 (i .revision) ++ (number 2 1 ++ (number 2 0 ++ entry)))
+  whole = number 8 (i .image) ++ (number 4 (i .revision) ++ (number 2 1 ++ (number 2 (i .extended) ++ entry)))
 
   -- no entry
   pub bare : List ℕ
-  bare = number 8 (i .image) ++ (number 4 (i .revision) ++ (number 2 0 ++ (number 2 0 ++ [])))
+  bare = number 8 (i .image) ++ (number 4 (i .revision) ++ (number 2 0 ++ (number 2 (i .extended) ++ [])))
 
-  module _ (image : i .image < 256 ^ 8) (revision : i .revision < 256 ^ 4) where
+  module _ (image : i .image < 256 ^ 8) (revision : i .revision < 256 ^ 4) (extended : i .extended < 256 ^ 2) where
     -- ---- one entry
+
+    whole-extended : le 2 whole 14 ≡ i .extended
+    unfolding whole
+    whole-extended =
+        past-number 2 8 (i .image) _ 6 ∙ past-number 2 4 (i .revision) _ 2 ∙ past-number 2 2 1 _ 0 ∙ at-number 2 (i .extended) _ extended
 
     pub whole-names : Holds (sameIdentity (sheetIdentity whole) i)
     unfolding whole
-    whole-names = (at-number 8 (i .image) _ image, past-number 4 8 (i .image) _ 0 ∙ at-number 4 (i .revision) _ revision)
+    whole-names =
+        (at-number 8 (i .image) _ image, (past-number 4 8 (i .image) _ 0 ∙ at-number 4 (i .revision) _ revision, whole-extended))
 
     pub whole-count : count whole ≡ 1
     unfolding whole
     whole-count = past-number 2 8 (i .image) _ 4 ∙ past-number 2 4 (i .revision) _ 0 ∙ at-number 2 1 _ (omega arith)
 
-    whole-clear : le 2 whole 14 ≡ 0
-    unfolding whole
-    whole-clear = past-number 2 8 (i .image) _ 6 ∙ past-number 2 4 (i .revision) _ 2 ∙ past-number 2 2 1 _ 0 ∙ at-number 2 0 _ (omega arith)
-
     in-entry : (k at : ℕ) → le k whole (8 + (4 + (2 + (2 + at)))) ≡ le k entry at
     unfolding whole
     in-entry k at =
         past-number k 8 (i .image) _ (4 + (2 + (2 + at))) ∙ past-number k 4 (i .revision) _ (2 + (2 + at)) ∙ past-number k 2 1 _ (2 + at)
-        ∙ past-number k 2 0 _ at
+        ∙ past-number k 2 (i .extended) _ at
 
     pub whole-byte : (j : ℕ) → getD whole (24 + j) 0 ≡ getD part j 0
     unfolding whole
@@ -67,7 +69,7 @@ module _ (i : Identity) (part : List ℕ) where
         let e : 24 + j ≡ 8 + (4 + (2 + (2 + (4 + (2 + (2 + j)))))) = omega arith in
         rw e
         (byte-past 8 (i .image) _ (4 + (2 + (2 + (4 + (2 + (2 + j)))))) ∙ byte-past 4 (i .revision) _ (2 + (2 + (4 + (2 + (2 + j)))))
-        ∙ byte-past 2 1 _ (2 + (4 + (2 + (2 + j)))) ∙ byte-past 2 0 _ (4 + (2 + (2 + j))) ∙ byte-past 4 32 _ (2 + (2 + j))
+        ∙ byte-past 2 1 _ (2 + (4 + (2 + (2 + j)))) ∙ byte-past 2 (i .extended) _ (4 + (2 + (2 + j))) ∙ byte-past 4 32 _ (2 + (2 + j))
         ∙ byte-past 2 (length part) _ (2 + j) ∙ byte-past 2 24 part j)
 
     whole-length : length whole ≡ 24 + length part
@@ -76,13 +78,11 @@ module _ (i : Identity) (part : List ℕ) where
         length-past 8 (i .image) _
         ∙ omega (
           arith,
-          length-past 4 (i .revision) (number 2 1 ++ (number 2 0 ++ entry)),
-          length-past 2 1
-              (number 2 0 ++ entry),
-          length-past 2 0 entry,
+          length-past 4 (i .revision) (number 2 1 ++ (number 2 (i .extended) ++ entry)),
+          length-past 2 1 (number 2 (i .extended) ++ entry),
+          length-past 2 (i .extended) entry,
           length-past 4 32 (number 2 (length part) ++ (number 2 24 ++ part)),
-          length-past 2
-              (length part) (number 2 24 ++ part),
+          length-past 2 (length part) (number 2 24 ++ part),
           length-past 2 24 part,
         )
 
@@ -108,24 +108,26 @@ module _ (i : Identity) (part : List ℕ) where
           let p = whole-position in
           let l = whole-length in
           record {
-            contents = (omega arith, (omega arith, (omega arith, (whole-clear, omega arith))));
+            contents = (omega arith, (omega arith, (omega arith, omega arith)));
             bodies = ((λ k h. let e = only k h in rw e (omega arith, (omega arith, omega arith))), rw n (omega arith));
             fields = λ k h. let e = only k h in rw e (omega arith, omega arith);
           }
 
     -- ---- none
 
+    bare-extended : le 2 bare 14 ≡ i .extended
+    unfolding bare
+    bare-extended =
+        past-number 2 8 (i .image) _ 6 ∙ past-number 2 4 (i .revision) _ 2 ∙ past-number 2 2 0 _ 0 ∙ at-number 2 (i .extended) _ extended
+
     pub bare-names : Holds (sameIdentity (sheetIdentity bare) i)
     unfolding bare
-    bare-names = (at-number 8 (i .image) _ image, past-number 4 8 (i .image) _ 0 ∙ at-number 4 (i .revision) _ revision)
+    bare-names =
+        (at-number 8 (i .image) _ image, (past-number 4 8 (i .image) _ 0 ∙ at-number 4 (i .revision) _ revision, bare-extended))
 
     pub bare-count : count bare ≡ 0
     unfolding bare
     bare-count = past-number 2 8 (i .image) _ 4 ∙ past-number 2 4 (i .revision) _ 0 ∙ at-number 2 0 _ (omega arith)
-
-    bare-clear : le 2 bare 14 ≡ 0
-    unfolding bare
-    bare-clear = past-number 2 8 (i .image) _ 6 ∙ past-number 2 4 (i .revision) _ 2 ∙ past-number 2 2 0 _ 0 ∙ at-number 2 0 _ (omega arith)
 
     bare-length : length bare ≡ 16
     unfolding bare
@@ -133,10 +135,9 @@ module _ (i : Identity) (part : List ℕ) where
         length-past 8 (i .image) _
         ∙ omega (
           arith,
-          length-past 4 (i .revision) (number 2 0 ++ (number 2 0 ++ [])),
-          length-past 2 0
-              (number 2 0 ++ []),
-          length-past 2 0 [],
+          length-past 4 (i .revision) (number 2 0 ++ (number 2 (i .extended) ++ [])),
+          length-past 2 0 (number 2 (i .extended) ++ []),
+          length-past 2 (i .extended) [],
         )
 
     pub bare-sound : (z : ℕ) → Sound bare z
@@ -145,7 +146,7 @@ module _ (i : Identity) (part : List ℕ) where
         let n = bare-count in
         let l = bare-length in
         record {
-          contents = (omega arith, (omega arith, (omega arith, (bare-clear, omega arith))));
+          contents = (omega arith, (omega arith, (omega arith, omega arith)));
           bodies = ((λ k h. absurd (omega arith)), rw n (omega arith));
           fields = λ k h. absurd (omega arith);
         }
@@ -156,7 +157,7 @@ module _ (i : Identity) (part : List ℕ) where
       bytes-append (number 8 (i .image)) _ (bytes-number 8 (i .image))
       (bytes-append (number 4 (i .revision)) _ (bytes-number 4 (i .revision))
       (bytes-append (number 2 1) _ (bytes-number 2 1)
-      (bytes-append (number 2 0) _ (bytes-number 2 0)
+      (bytes-append (number 2 (i .extended)) _ (bytes-number 2 (i .extended))
       (bytes-append (number 4 32) _ (bytes-number 4 32)
       (bytes-append (number 2 (length part)) _ (bytes-number 2 (length part)) (bytes-append (number 2 24) part (bytes-number 2 24) b))))))
 
@@ -165,4 +166,5 @@ module _ (i : Identity) (part : List ℕ) where
   bare-bytes =
       bytes-append (number 8 (i .image)) _ (bytes-number 8 (i .image))
       (bytes-append (number 4 (i .revision)) _ (bytes-number 4 (i .revision))
-      (bytes-append (number 2 0) _ (bytes-number 2 0) (bytes-append (number 2 0) [] (bytes-number 2 0) (λ k. omega arith))))
+      (bytes-append (number 2 0) _ (bytes-number 2 0)
+      (bytes-append (number 2 (i .extended)) [] (bytes-number 2 (i .extended)) (λ k. omega arith))))

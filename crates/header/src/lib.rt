@@ -1,10 +1,34 @@
-// Rules 5 to 8 of document 01: the header, its size, the component and the base.
+// Rules 5 to 8 of document 01: the header, its size, the component and the base; and the extended number of request #102.
 ghost use mathlib.Core.Path.{_≡_};
 ghost use Prim.Native.Nat.{_+_, _≤_, _<_};
 ghost use lib.ListN.{length};
-ghost use Rattle.facts.specs.Fact.{Tells};
-ghost use Rattle.header.specs.Header.{headerFits, sizeFits, component, componentFits};
+ghost use Rattle.facts.specs.Fact.{Holds, Tells};
+ghost use Rattle.words.specs.Le.{le};
+ghost use Rattle.header.specs.Header.{hasExtended, reaches, headerFits, sizeFits, component, extendedNumber, componentFits};
 ghost use Rattle.header.specs.Base.{SaysLegal};
+
+// Whether a header of this revision has the extended number.
+fn has_extended(revision: usize) -> bool
+    ensures { λ r. ⌜ Tells r (hasExtended revision) ⌝ }
+{
+    if revision < 6 {
+        return false;
+    }
+    true
+}
+
+// Rule 5 for the end of the extended number.
+fn reaches_far(revision: usize, L: usize) -> bool
+    ensures { λ r. ⌜ Tells r (reaches revision L) ⌝ }
+{
+    if !has_extended(revision) {
+        return true;
+    }
+    if L < 80 {
+        return false;
+    }
+    true
+}
 
 // Rule 5, the section being `size` bytes long.
 pub fn header_fits(image: &[u8], H: usize, size: usize) -> bool
@@ -14,7 +38,8 @@ pub fn header_fits(image: &[u8], H: usize, size: usize) -> bool
     if words::le32(image, H) != 0x48505346 {
         return false;
     }
-    if words::byte(image, H + 11) < 3 {
+    let revision = words::byte(image, H + 11);
+    if revision < 3 {
         return false;
     }
     let L = words::le32(image, H + 4);
@@ -25,6 +50,9 @@ pub fn header_fits(image: &[u8], H: usize, size: usize) -> bool
         return false;
     }
     if size < 4 + L {
+        return false;
+    }
+    if !reaches_far(revision, L) {
         return false;
     }
     true
@@ -47,6 +75,17 @@ pub fn component_at(image: &[u8], H: usize) -> usize
     ensures { λ r. ⌜ r ≡ component (now (image .entry)) H ⌝ }
 {
     words::le16(image, H + 34) / 4096
+}
+
+// The extended number, or 0; below revision 6 the image may end before H+76.
+pub fn extended_number(image: &[u8], H: usize) -> u32
+    requires { ⌜ (H + 72 ≤ length (now image)) × (Holds (hasExtended (le 1 (now image) (H + 11))) → H + 78 ≤ length (now image)) ⌝ }
+    ensures { λ r. ⌜ r ≡ extendedNumber (now (image .entry)) H ⌝ }
+{
+    if !has_extended(words::byte(image, H + 11)) {
+        return 0;
+    }
+    words::le16(image, H + 76) as u32
 }
 
 // Rule 7.

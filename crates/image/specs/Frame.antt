@@ -13,8 +13,8 @@ use Rattle.words.specs.Le.{le, Alike}
 use Rattle.words.specs.LeLaws.{alike-in, le-in}
 use Rattle.volume.specs.Volume.{lengthFits, volumeFits, extensionFits, round8, fileFits, sectionFits}
 use Rattle.volume.specs.VolumeLaws.{volume-looks, extension-looks, file-looks, section-looks}
-use Rattle.header.specs.Header.{headerFits, sizeFits, component, componentFits}
-use Rattle.header.specs.HeaderLaws.{header-looks, size-looks, component-looks}
+use Rattle.header.specs.Header.{hasExtended, headerFits, sizeFits, component, extendedNumber, componentFits}
+use Rattle.header.specs.HeaderLaws.{header-looks, size-looks, component-looks, extended-number-looks}
 use Rattle.header.specs.Base.{legalBase}
 use Rattle.table.specs.Table.{round4, extended, extendedFits, patchFits}
 use Rattle.table.specs.TableLaws.{extended-looks, extendedFits-looks, patch-looks}
@@ -37,9 +37,10 @@ Together s t = Same Rebased s t
 -- are passed
 
 module _ (a b : List ℕ) where
-  -- the entries; revision and identity
+  -- the entries; the header's revision, revision and identity; the extended number, where the header has one
   abbrev pub AlikeEntries : ℕ → ℕ → ℕ → Type 0
-  AlikeEntries H t n = Alike a b t (4 * n) × Alike a b (H + 12) 12
+  AlikeEntries H t n =
+      Alike a b t (4 * n) × Alike a b (H + 11) 13 × (Holds (hasExtended (le 1 a (H + 11))) → Alike a b (H + 76) 2)
 
   -- c and z; the two marks
   abbrev pub AlikeRegion : ℕ → ℕ → ℕ → Type 0
@@ -110,9 +111,11 @@ module _ (a b : List ℕ) (long : length a ≡ length b) where
   entries : (H t n c z : ℕ) → component a H ≡ component b H → AlikeEntries a b H t n
       → Together (fromEntries a H t n c z) (fromEntries b H t n c z)
   unfolding fromEntries accepted identityAt
-  entries H t n c z comp (table, names) =
+  entries H t n c z comp (table, names, far) =
       let image : le 8 a (H + 16) ≡ le 8 b (H + 16) = le-in names 8 (H + 16) (omega arith) (omega arith) in
-      let revision : le 4 a (H + 12) ≡ le 4 b (H + 12) = le-in names 4 (H + 12) (omega arith) (omega arith) in (
+      let revision : le 4 a (H + 12) ≡ le 4 b (H + 12) = le-in names 4 (H + 12) (omega arith) (omega arith) in
+      let extended : extendedNumber a H ≡ extendedNumber b H =
+      extended-number-looks a b H (alike-in names (H + 11) 1 (omega arith) (omega arith)) far in (
         refl,
         refl,
         unrefused-cong a b t n long table 12,
@@ -120,7 +123,7 @@ module _ (a b : List ℕ) (long : length a ≡ length b) where
           refl,
           refl,
           unrefused-cong a b t n long table 13,
-          (refl, refl, clear-cong a b t n long table (t + 4 * n) c z, rw (comp, image, revision)),
+          (refl, refl, clear-cong a b t n long table (t + 4 * n) c z, rw (comp, image, revision, extended)),
         ),
       )
 

@@ -1,5 +1,5 @@
 -- The frame law for an accepted image, in one sentence: bytes at or above E other than c+6 and c+7 don't matter, nor does the base word so
--- long as it stays legal.
+-- long as it stays legal. Below header revision 6 the two bytes of the extended number don't either.
 -- Assumes nothing.
 use Prim.Native.Nat.{ℕ, _+_, _*_, _≤_, _<_}
 use mathlib.Core.List.{List}
@@ -10,6 +10,7 @@ use lib.ListN.{length, getD}
 use Rattle.facts.specs.Fact.{test, Holds, passes}
 use Rattle.facts.specs.Rules.{Passed}
 use Rattle.words.specs.Le.{le, Alike}
+use Rattle.words.specs.LeLaws.{le-cong}
 use Rattle.header.specs.Base.{legalBase}
 use Rattle.image.specs.declared.Reading.{Reading}
 use Rattle.image.specs.Reading.{accepted, rebased, reading}
@@ -24,15 +25,29 @@ pub record AlikeBelow (a b : List ℕ) (r : Reading) : Type 0 where
   pub above : (k : ℕ) → r .H + 32 ≤ k → k < r .E → getD a k 0 ≡ getD b k 0
   pub marks : Alike a b (r .c + 6) 2
 
-module _ (a b : List ℕ) (r : Reading) (same : AlikeBelow a b r)
+-- a and b agree below H+76 but for the base word, from H+least on up to E, on the extended number where there is one, and on the two marks;
+-- the header ends at H+least or after
+record Framed (a b : List ℕ) (r : Reading) (least : ℕ) : Type 0 where
+  long : length a ≡ length b
+  below : (k : ℕ) → k < r .H + 28 → getD a k 0 ≡ getD b k 0
+  within : (k : ℕ) → r .H + 32 ≤ k → k < r .H + 76 → getD a k 0 ≡ getD b k 0
+  above : (k : ℕ) → r .H + least ≤ k → k < r .E → getD a k 0 ≡ getD b k 0
+  extended : 6 ≤ le 1 a (r .H + 11) → Alike a b (r .H + 76) 2
+  marks : Alike a b (r .c + 6) 2
+  header-long : 72 ≤ le 4 a (r .H + 4) → least ≤ le 4 a (r .H + 4)
+
+module _ (a b : List ℕ) (r : Reading) (least : ℕ) (same : Framed a b r least)
     (both : test (legalBase (length a) (le 4 a (r .H + 28))) ≡ test (legalBase (length b) (le 4 b (r .H + 28)))) where
   low : (p m : ℕ) → p + m ≤ r .H + 28 → Alike a b p m
   low p m h = record { same = λ j l. same .below (p + j) (omega arith) }
 
-  high : (p m : ℕ) → r .H + 32 ≤ p → p + m ≤ r .E → Alike a b p m
+  middle : (p m : ℕ) → r .H + 32 ≤ p → p + m ≤ r .H + 76 → Alike a b p m
+  middle p m h k = record { same = λ j l. same .within (p + j) (omega arith) (omega arith) }
+
+  high : (p m : ℕ) → r .H + least ≤ p → p + m ≤ r .E → Alike a b p m
   high p m h k = record { same = λ j l. same .above (p + j) (omega arith) (omega arith) }
 
-  patch : (H p end : ℕ) → H + 72 ≤ p → Passed (fromPatch a H p end) r → (r .H ≡ H) × (p + 12 ≤ r .E) × AlikePatch a b H p end
+  patch : (H p end : ℕ) → H + least ≤ p → Passed (fromPatch a H p end) r → (r .H ≡ H) × (p + 12 ≤ r .E) × AlikePatch a b H p end
   unfolding fromPatch fromRegion fromEntries accepted
   patch H p end far (fits, (region, (marks, (types, (places, (clears, e)))))) =
       let n = le 4 a (p + 8) in
@@ -49,13 +64,16 @@ module _ (a b : List ℕ) (r : Reading) (same : AlikeBelow a b r)
                 (omega arith),
           )),
           λ h. (
-            high (H + 36) 8 (omega arith) (omega arith),
-            λ k. (rw c at (same .marks), λ l. (high (p + 12) (4 * n) (omega arith) (omega arith), low (H + 12) 12 (omega arith))),
+            middle (H + 36) 8 (omega arith) (omega arith),
+            λ k. (
+              rw c at (same .marks),
+              λ l. (high (p + 12) (4 * n) (omega arith) (omega arith), low (H + 11) 13 (omega arith), rw at at (same .extended)),
+            ),
           ),
         ),
       )
 
-  table : (H p end : ℕ) → H + 72 ≤ p → Passed (fromTable a H p end) r → (r .H ≡ H) × (p + 12 ≤ r .E) × AlikeTable a b H p end
+  table : (H p end : ℕ) → H + least ≤ p → Passed (fromTable a H p end) r → (r .H ≡ H) × (p + 12 ≤ r .E) × AlikeTable a b H p end
   unfolding fromTable
   table H p end far (inl (there, (ext, rest))) =
       let (at, room, alike) = patch H _ end (omega arith) rest in (
@@ -72,9 +90,17 @@ module _ (a b : List ℕ) (r : Reading) (same : AlikeBelow a b r)
       let (at, room, alike) = patch H p end far rest in
       (at, room, ((λ h. high p 4 (omega arith) (omega arith)), (λ h. absurd (none h)), λ h. alike))
 
+  -- the header stands where the reading says
+  at-table : (H p end : ℕ) → Passed (fromTable a H p end) r → r .H ≡ H
+  unfolding fromTable fromPatch fromRegion fromEntries accepted
+  at-table H p end (inl (there, (ext, (fits, (region, (marks, (types, (places, (clears, e))))))))) = ap (λ (s : Reading). s .H) e
+  at-table H p end (inr (none, (fits, (region, (marks, (types, (places, (clears, e)))))))) = ap (λ (s : Reading). s .H) e
+
   header : (f size : ℕ) → Passed (fromHeader a f size) r → (r .H ≡ f + 28) × (f + 112 ≤ r .E) × AlikeHeader a b f size
   unfolding fromHeader fromComponent
   header f size (head, (long, (comp, (legal, rest)))) =
+      let stands : r .H ≡ f + 28 = at-table (f + 28) _ (f + 24 + size) rest in
+      let L : least ≤ le 4 a (f + 28 + 4) = rw stands at (same .header-long) (head .1 .1 .0) in
       let (at, room, alike) = table (f + 28) _ (f + 24 + size) (omega arith) rest in (
         at,
         omega arith,
@@ -82,7 +108,7 @@ module _ (a b : List ℕ) (r : Reading) (same : AlikeBelow a b r)
           (low (f + 28) 8 (omega arith), low (f + 28 + 11) 1 (omega arith)),
           λ h. (
             low (f + 28 + 24) 4 (omega arith),
-            λ k. (high (f + 28 + 34) 2 (omega arith) (omega arith), λ l. (rw at at both, λ m. alike)),
+            λ k. (middle (f + 28 + 34) 2 (omega arith) (omega arith), λ l. (rw at at both, λ m. alike)),
           ),
         ),
       )
@@ -107,16 +133,53 @@ module _ (a b : List ℕ) (r : Reading) (same : AlikeBelow a b r)
         ),
       )
 
--- an image that agrees with an accepted one there has the same reading but for the base, which is its own base word
-pub frame-below : (a b : List ℕ) → reading a .number ≡ 0 → AlikeBelow a b (reading a)
+-- two images that agree so have one reading but for the base, which is the other's own base word
+framed : (a b : List ℕ) (least : ℕ) → reading a .number ≡ 0 → Framed a b (reading a) least
     → Holds (legalBase (length b) (le 4 b (reading a .H + 28))) → reading b ≡ rebased (reading a) (le 4 b (reading a .H + 28))
-frame-below a b e same legal =
+framed a b least e same legal =
     let r = reading a in
     let g = guaranteed a e in
     let ours : Holds (legalBase (length a) (le 4 a (r .H + 28))) = rw (g .base-is) at (g .legal) in
     let both = passes (legalBase (length a) (le 4 a (r .H + 28))) ours ∙ sym (passes (legalBase (length b) (le 4 b (r .H + 28))) legal) in
-    let f = frame a b (image a b r same both (all-passed a e)) in
+    let f = frame a b (image a b r least same both (all-passed a e)) in
     let number : reading b .number ≡ 0 = ap (λ (s : Reading). s .number) f ∙ e in
     let at : reading b .H ≡ r .H = ap (λ (s : Reading). s .H) f in
     let base : reading b .base ≡ le 4 b (r .H + 28) = guaranteed b number .base-is ∙ ap (λ (H : ℕ). le 4 b (H + 28)) at in
     f ∙ ap (λ (w : ℕ). rebased r w) base
+
+-- an image that agrees with an accepted one there has the same reading but for the base, which is its own base word
+pub frame-below : (a b : List ℕ) → reading a .number ≡ 0 → AlikeBelow a b (reading a)
+    → Holds (legalBase (length b) (le 4 b (reading a .H + 28))) → reading b ≡ rebased (reading a) (le 4 b (reading a .H + 28))
+frame-below a b e same legal =
+    let g = guaranteed a e in
+    framed a b 72 e
+    (record {
+      long = same .long;
+      below = same .below;
+      within = λ k h l. same .above k h (omega (arith, g));
+      above = λ k h l. same .above k (omega arith) l;
+      extended = λ six. record { same = λ j l. same .above (reading a .H + 76 + j) (omega arith) (omega (arith, g)) };
+      marks = same .marks;
+      header-long = λ h. h;
+    }) legal
+
+-- below header revision 6, where the header's own bytes stand at H+76 and H+77, no reading looks at those two
+pub unlooked : (a b : List ℕ) → reading a .number ≡ 0 → le 1 a (reading a .H + 11) < 6 → 78 ≤ le 4 a (reading a .H + 4)
+    → length a ≡ length b
+    → ((k : ℕ) → (k < reading a .H + 76) ⊎ (reading a .H + 78 ≤ k) → getD a k 0 ≡ getD b k 0) → reading b ≡ reading a
+unlooked a b e below wide long same =
+    let r = reading a in
+    let g = guaranteed a e in
+    let base : le 4 b (r .H + 28) ≡ r .base =
+    sym (le-cong 4 a b (r .H + 28) (record { same = λ j l. same (r .H + 28 + j) (inl (omega arith)) })) ∙ sym (g .base-is) in
+    framed a b 78 e
+    (record {
+      long = long;
+      below = λ k h. same k (inl (omega arith));
+      within = λ k h l. same k (inl l);
+      above = λ k h l. same k (inr h);
+      extended = λ six. absurd (omega arith);
+      marks = record { same = λ j l. same (r .c + 6 + j) (inr (omega (arith, g))) };
+      header-long = λ h. wide;
+    }) (rw (base, ← long) (g .legal))
+    ∙ ap (λ (w : ℕ). rebased r w) base

@@ -11,7 +11,7 @@ use Rattle.facts.specs.Fact.{Fact, _≡?_, deny, _or_, test}
 use Rattle.facts.specs.Rules.{Rules, answer, rule, pass, run}
 use Rattle.words.specs.Le.{le}
 use Rattle.volume.specs.Volume.{lengthFits, volumeFits, extensionFits, round8, fileFits, sectionFits}
-use Rattle.header.specs.Header.{headerFits, sizeFits, component, componentFits}
+use Rattle.header.specs.Header.{headerFits, sizeFits, component, extendedNumber, componentFits}
 use Rattle.header.specs.Base.{legalBase}
 use Rattle.table.specs.Table.{round4, extended, extendedFits, patchFits}
 use Rattle.table.specs.Passes.{place, unrefused, clear}
@@ -29,7 +29,7 @@ refusal number index =
       index = index;
       H = 0;
       component = 0;
-      identity = record { image = 0; revision = 0 };
+      identity = record { image = 0; revision = 0; extended = 0 };
       base = 0;
       c = 0;
       z = 0;
@@ -37,9 +37,9 @@ refusal number index =
       E = 0;
     }
 
--- what tells one release of an image from another: the eight bytes at H+16, and the revision at H+12
+-- what tells one release of an image from another: the eight bytes at H+16, the revision at H+12, and the extended number
 unfoldable pub identityAt : List ℕ → ℕ → Identity
-identityAt xs H = record { image = le 8 xs (H + 16); revision = le 4 xs (H + 12) }
+identityAt xs H = record { image = le 8 xs (H + 16); revision = le 4 xs (H + 12); extended = extendedNumber xs H }
 
 -- an accepted reading; the entries of the patch table start at t, and E is where they end
 unfoldable pub accepted : List ℕ → ℕ → ℕ → ℕ → ℕ → ℕ → Reading

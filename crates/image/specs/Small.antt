@@ -1,5 +1,5 @@
--- A small image that reads: a volume of 240 bytes with one file, one patch entry, and a region of 48 bytes. What is said of images in
--- general is computed for it, so that nothing is said of no image.
+-- A small image that reads: a volume of 240 bytes with one file, one patch entry, and a region of 48 bytes; and one of 248 bytes whose
+-- header can have the extended number. What is said of images in general is computed for them, so that nothing is said of no image.
 -- Assumes nothing.
 use Prim.Native.Nat.{ℕ, suc, _+_}
 use mathlib.Core.List.{List, [], _∷_, _++_}
@@ -12,39 +12,49 @@ use Rattle.words.specs.Le.{le}
 use Rattle.words.specs.Put.{digit}
 use Rattle.words.specs.Number.{number, zeros}
 use Rattle.volume.specs.Volume.{guid, sumWords, sumBytes, fileSum}
-use Rattle.header.specs.Header.{component}
+use Rattle.header.specs.Header.{component, extendedNumber}
 use Rattle.table.specs.Entry.{placeOf}
 use Rattle.table.specs.Passes.{place}
 use Rattle.image.specs.declared.Reading.{Reading}
 use Rattle.image.specs.Reading.{refusal, identityAt, accepted, rules, reading, f, p}
 
 -- bytes 0..71, the volume's header: its length, its mark, h, the word that makes the sum 0, and x
-abbrev volume : List ℕ
-volume = zeros 32 ++ (number 8 240 ++ (number 4 0x4856465F ++ (zeros 4 ++ (number 2 72 ++ (number 2 0x7013 ++ (number 2 0 ++ zeros 18))))))
+abbrev volume : ℕ → ℕ → List ℕ
+volume long sum =
+    zeros 32 ++ (number 8 long ++ (number 4 0x4856465F ++ (zeros 4 ++ (number 2 72 ++ (number 2 sum ++ (number 2 0 ++ zeros 18))))))
 
 -- bytes 72..99, the header file and its section: the byte that makes the sum 0, s, and the section's size and type
-abbrev file : List ℕ
-file = guid ++ (number 1 176 ++ (zeros 3 ++ (number 3 116 ++ (zeros 1 ++ (number 3 92 ++ number 1 0x19)))))
+abbrev file : ℕ → ℕ → ℕ → List ℕ
+file sum s section = guid ++ (number 1 sum ++ (zeros 3 ++ (number 3 s ++ (zeros 1 ++ (number 3 section ++ number 1 0x19)))))
 
 -- bytes 100..171, the header with L, its revision, revision 0x01020304, `TREAT-01`, the size, the base, the component, c and z
-abbrev header : ℕ → List ℕ
-header base =
+abbrev header : ℕ → ℕ → ℕ → ℕ → ℕ → List ℕ
+header L kind size base c =
     number 4 0x48505346
-    ++ (number 4 72
+    ++ (number 4 L
     ++ (zeros 3
-    ++ (number 1 3
+    ++ (number 1 kind
     ++ (number 4 0x01020304
-    ++ (number 8 0x31302D5441455254 ++ (number 4 240 ++ (number 4 base ++
-    (zeros 2 ++ (number 2 0x1000 ++ (number 4 188 ++ (number 4 48 ++ zeros 28)))))))))))
+    ++ (number 8 0x31302D5441455254 ++ (number 4 size ++ (number 4 base ++ (zeros 2 ++ (number 2 0x1000 ++ (number 4 c ++ (number 4 48 ++ zeros 28)))))))))))
 
--- bytes 172..187, the patch table: its revision, n, and an entry that counts four bytes back from the end
+-- 16 bytes, the patch table: its revision, n, and an entry that counts four bytes back from the end
 abbrev table : List ℕ
 table = number 4 0x50505346 ++ (number 2 16 ++ (number 1 1 ++ (zeros 1 ++ (number 4 1 ++ number 4 0xFFFFFFFC))))
 
--- bytes 188..219, the region's header with its marks; 220..235, the settings; 236..239, the patch word
+-- 32 bytes, the region's header with its marks; 16, the settings; 4, the patch word
+abbrev region : ℕ → List ℕ → List ℕ
+region word part = zeros 6 ++ (95 ∷ 84 ∷ (zeros 24 ++ (part ++ number 4 word)))
+
+-- header revision 3: the table from 172 on, the region from 188 on
 unfoldable pub small : ℕ → ℕ → List ℕ → List ℕ
-small base word part =
-    volume ++ (file ++ (header base ++ (table ++ (zeros 6 ++ (95 ∷ 84 ∷ (zeros 24 ++ (part ++ number 4 word)))))))
+small base word part = volume 240 0x7013 ++ (file 176 116 92 ++ (header 72 3 240 base 188 ++ (table ++ region word part)))
+
+-- the same with a header of this length, at most 80, and this revision, and with a number at H+76: the table from 180 on, the region from
+-- 196 on
+unfoldable pub later : ℕ → ℕ → ℕ → List ℕ → List ℕ
+later L kind extended part =
+    volume 248 0x700B
+    ++ (file 168 124 100 ++ (header L kind 248 0xFFF80000 196 ++ (zeros 4 ++ (number 2 extended ++ (zeros 2 ++ (table ++ region 0xFFF80040 part))))))
 
 -- its settings: zeros, and at 40 in the region these two bytes
 abbrev pub settingBytes : ℕ → ℕ → List ℕ
@@ -57,12 +67,43 @@ pub small-reads : reading (small 0xFFF80000 0xFFF80040 (settingBytes 0 1))
       index = 0;
       H = 100;
       component = 1;
-      identity = record { image = 0x31302D5441455254; revision = 0x01020304 };
+      identity = record { image = 0x31302D5441455254; revision = 0x01020304; extended = 0 };
       base = 0xFFF80000;
       c = 188;
       z = 48;
       n = 1;
       E = 188;
     }
-unfolding small number zeros digit le reading rules run f p test allBelow firstFault firstFrom sumWords sumBytes fileSum component placeOf place identityAt accepted
+unfolding small number zeros digit le reading rules run f p test allBelow firstFault firstFrom sumWords sumBytes fileSum component extendedNumber placeOf place identityAt accepted
 small-reads = refl
+
+-- what the other gives with this extended number
+abbrev pub laterReading : ℕ → Reading
+laterReading extended =
+    record {
+      number = 0;
+      index = 0;
+      H = 100;
+      component = 1;
+      identity = record { image = 0x31302D5441455254; revision = 0x01020304; extended = extended };
+      base = 0xFFF80000;
+      c = 196;
+      z = 48;
+      n = 1;
+      E = 196;
+    }
+
+-- at header revision 6 the number is read
+pub six-reads : reading (later 80 6 0x0201 (settingBytes 0 1)) ≡ laterReading 0x0201
+unfolding later number zeros digit le reading rules run f p test allBelow firstFault firstFrom sumWords sumBytes fileSum component extendedNumber placeOf place identityAt accepted
+six-reads = refl
+
+-- and L is at least 80
+pub six-short : reading (later 79 6 0x0201 (settingBytes 0 1)) ≡ refusal 5 0
+unfolding later number zeros digit le reading rules run f p test allBelow firstFault firstFrom sumWords sumBytes fileSum
+six-short = refl
+
+-- at revision 5 the reading is the same whatever stands there
+pub five-reads : (any : ℕ) → reading (later 79 5 any (settingBytes 0 1)) ≡ laterReading 0
+unfolding later number zeros digit le reading rules run f p test allBelow firstFault firstFrom sumWords sumBytes fileSum component extendedNumber placeOf place identityAt accepted
+five-reads any = refl

@@ -9,10 +9,11 @@ ghost use Rattle.header.specs.Header.{component, componentFits};
 ghost use Rattle.image.specs.Reading.{refusal, identityAt, accepted, Reads};
 ghost use Rattle.image.specs.Stages.{fromEntries, fromRegion, fromPatch, fromTable, fromComponent, fromHeader, fromSection, fromFile, fromExtension, fromVolume};
 
-// What tells one release of an image from another.
+// What tells one release of an image from another: the image identity, the revision, and the extended number.
 pub struct Identity {
     pub image: u64,
     pub revision: u32,
+    pub extended: u32,
 }
 
 // The answer of a reading: number 0 and the fields, or the refusal's number and index and zero in every other field.
@@ -40,6 +41,7 @@ fn refused(number: u32, index: usize) -> Reading
         identity: Identity {
             image: 0,
             revision: 0,
+            extended: 0,
         },
         base: 0,
         c: 0,
@@ -50,17 +52,18 @@ fn refused(number: u32, index: usize) -> Reading
 }
 
 fn identity_at(image: &[u8], H: usize) -> Identity
-    requires { ⌜ H + 72 ≤ length (now image) ⌝ }
+    requires { ⌜ H + 80 ≤ length (now image) ⌝ }
     ensures { λ r. ⌜ r ≡ identityAt (now (image .entry)) H ⌝ }
 {
     Identity {
         image: words::le64(image, H + 16) as u64,
         revision: words::le32(image, H + 12) as u32,
+        extended: header::extended_number(image, H),
     }
 }
 
 fn accept(image: &[u8], H: usize, t: usize, n: usize, c: usize, z: usize) -> Reading
-    requires { ⌜ (H + 72 ≤ length (now image)) × (t + 4 * n ≤ length (now image)) ⌝ }
+    requires { ⌜ (H + 80 ≤ length (now image)) × (t + 4 * n ≤ length (now image)) ⌝ }
     ensures { λ r. ⌜ r ≡ accepted (now (image .entry)) H t n c z ⌝ }
 {
     let identity = identity_at(image, H);
@@ -80,7 +83,7 @@ fn accept(image: &[u8], H: usize, t: usize, n: usize, c: usize, z: usize) -> Rea
 
 // 12, 13 and 14, one pass over all entries after the other.
 fn from_entries(image: &[u8], H: usize, t: usize, n: usize, c: usize, z: usize) -> Reading
-    requires { ⌜ (H + 72 ≤ length (now image)) × (t + 4 * n ≤ length (now image)) × (c + z ≤ length (now image)) ⌝ }
+    requires { ⌜ (H + 80 ≤ length (now image)) × (t + 4 * n ≤ length (now image)) × (c + z ≤ length (now image)) ⌝ }
     ensures { λ r. ⌜ r ≡ run refusal (fromEntries (now (image .entry)) H t n c z) ⌝ }
 {
     let a = table::first_refused(image, t, n, 12);
@@ -100,7 +103,7 @@ fn from_entries(image: &[u8], H: usize, t: usize, n: usize, c: usize, z: usize) 
 
 // 10 and 11.
 fn from_region(image: &[u8], H: usize, t: usize, n: usize) -> Reading
-    requires { ⌜ (H + 72 ≤ length (now image)) × (t + 4 * n ≤ length (now image)) × Holds (componentFits (component (now image) H)) ⌝ }
+    requires { ⌜ (H + 80 ≤ length (now image)) × (t + 4 * n ≤ length (now image)) × Holds (componentFits (component (now image) H)) ⌝ }
     ensures { λ r. ⌜ r ≡ run refusal (fromRegion (now (image .entry)) H t n) ⌝ }
 {
     let c = words::le32(image, H + 36);
@@ -116,7 +119,7 @@ fn from_region(image: &[u8], H: usize, t: usize, n: usize) -> Reading
 
 // 9, at the patch table.
 fn from_patch(image: &[u8], H: usize, p: usize, end: usize) -> Reading
-    requires { ⌜ (H + 72 ≤ length (now image)) × (end ≤ length (now image)) × (p ≤ 33554432) × Holds (componentFits (component (now image) H)) ⌝ }
+    requires { ⌜ (H + 72 ≤ p) × (end ≤ length (now image)) × (p ≤ 33554432) × Holds (componentFits (component (now image) H)) ⌝ }
     ensures { λ r. ⌜ r ≡ run refusal (fromPatch (now (image .entry)) H p end) ⌝ }
 {
     if !table::patch_fits(image, p, end) {
@@ -127,7 +130,7 @@ fn from_patch(image: &[u8], H: usize, p: usize, end: usize) -> Reading
 
 // 9, where `FSPE` may stand before the patch table.
 fn from_table(image: &[u8], H: usize, p: usize, end: usize) -> Reading
-    requires { ⌜ (H + 72 ≤ length (now image)) × (end ≤ length (now image)) × (length (now image) ≤ 16777216) × (p ≤ 33554432) × Holds (componentFits (component (now image) H)) ⌝ }
+    requires { ⌜ (H + 72 ≤ p) × (end ≤ length (now image)) × (length (now image) ≤ 16777216) × (p ≤ 33554432) × Holds (componentFits (component (now image) H)) ⌝ }
     ensures { λ r. ⌜ r ≡ run refusal (fromTable (now (image .entry)) H p end) ⌝ }
 {
     if !table::is_extended(image, p, end) {
@@ -142,7 +145,7 @@ fn from_table(image: &[u8], H: usize, p: usize, end: usize) -> Reading
 
 // 7 and 8.
 fn from_component(image: &[u8], H: usize, p: usize, end: usize) -> Reading
-    requires { ⌜ (H + 72 ≤ length (now image)) × (end ≤ length (now image)) × (length (now image) ≤ 16777216) × (p ≤ 33554432) ⌝ }
+    requires { ⌜ (H + 72 ≤ length (now image)) × (end ≤ length (now image)) × (length (now image) ≤ 16777216) × (H + 72 ≤ p) × (p ≤ 33554432) ⌝ }
     ensures { λ r. ⌜ r ≡ run refusal (fromComponent (now (image .entry)) H p end) ⌝ }
 {
     if !header::component_fits(header::component_at(image, H)) {

@@ -16,6 +16,8 @@ use Rattle.facts.specs.Fact.{Holds, test}
 use Rattle.facts.specs.Rules.{by-test, by-cond}
 use Rattle.words.specs.Le.{le, Bytes}
 use Rattle.words.specs.LeLaws.{le-lt}
+use Rattle.header.specs.Header.{extendedNumber}
+use Rattle.header.specs.HeaderLaws.{extended-small}
 use Rattle.header.specs.Base.{legalBase}
 use Rattle.image.specs.declared.Identity.{Identity}
 use Rattle.image.specs.declared.Reading.{Reading}
@@ -60,22 +62,8 @@ read-refused : (xs : List ℕ) → Bytes xs → (reading xs .number ≡ 0 → �
 read-refused xs b h =
     let small = number-small xs _ _ _ (λ k o. absurd o) (numbered xs) in
     let at = index-small xs _ _ _ b (numbered xs) in
-    rw (refused-is xs h) (
-      small,
-      (
-        omega arith,
-        (
-          omega arith,
-          (
-            omega arith,
-            (
-              omega arith,
-              (omega arith, (omega arith, (omega arith, (omega arith, (omega arith, (omega arith, tt)))))),
-            ),
-          ),
-        ),
-      ),
-    )
+    rw (refused-is xs h)
+    (small, (omega arith, (omega arith, (omega arith, (omega arith, (omega arith, (omega arith, (omega arith, (omega arith, (omega arith, (omega arith, (omega arith, tt))))))))))))
 
 read-accepted : (xs : List ℕ) → Bytes xs → reading xs .number ≡ 0 → Small (readFields (reading xs))
 unfolding identityAt
@@ -83,7 +71,9 @@ read-accepted xs b ok =
     let g = guaranteed xs ok in
     let at = index-small xs _ _ _ b (numbered xs) in
     let image : reading xs .identity .image ≡ le 8 xs (reading xs .H + 16) = ap (λ (i : Identity). i .image) (g .identity-is) in
-    let revision : reading xs .identity .revision ≡ le 4 xs (reading xs .H + 12) = ap (λ (i : Identity). i .revision) (g .identity-is) in (
+    let revision : reading xs .identity .revision ≡ le 4 xs (reading xs .H + 12) = ap (λ (i : Identity). i .revision) (g .identity-is) in
+    let extended : reading xs .identity .extended ≡ extendedNumber xs (reading xs .H) =
+    ap (λ (i : Identity). i .extended) (g .identity-is) in (
       omega arith,
       (
         omega arith,
@@ -95,7 +85,7 @@ read-accepted xs b ok =
               omega (arith, le-lt 8 xs (reading xs .H + 16) b),
               (
                 omega (arith, le-lt 4 xs (reading xs .H + 12) b),
-                (omega (arith, g .legal), (omega (arith, g), (omega (arith, g), (omega (arith, g), (omega (arith, g), tt))))),
+                (omega (arith, g .legal), (omega (arith, g), (omega (arith, g), (omega (arith, g), (omega (arith, g), (omega (arith, extended-small xs (reading xs .H) b), tt)))))),
               ),
             ),
           ),

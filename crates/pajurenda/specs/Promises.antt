@@ -15,7 +15,7 @@ use Rattle.answers.specs.Answers.{ifRoom, result, answered, readFields, moveFie
 
 -- `pajurenda_read`
 abbrev pub ReadCall : List ℕ → List ℕ → ℕ → List ℕ → Type 0
-ReadCall xs A r a = (r ≡ result 11 A (reading xs .number)) × (a ≡ answered A (readFields (reading xs)))
+ReadCall xs A r a = (r ≡ result 12 A (reading xs .number)) × (a ≡ answered A (readFields (reading xs)))
 
 -- `pajurenda_move`; ys is the image afterwards
 abbrev pub MoveCall : List ℕ → ℕ → List ℕ → ℕ → List ℕ → List ℕ → Type 0

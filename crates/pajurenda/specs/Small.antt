@@ -25,16 +25,16 @@ use Rattle.answers.specs.AnswerLaws.{found-accepted}
 abbrev maker : List ℕ
 maker = small 0xFFF80000 0xFFF80040 (settingBytes 0 1)
 
--- number, index, H, component, identity, revision, base, c, z, n, E
-pub read-answer : answered (zeros 88) (readFields (reading maker))
+-- number, index, H, component, identity, revision, base, c, z, n, E, extended number
+pub read-answer : answered (zeros 96) (readFields (reading maker))
     ≡ number 8 0
     ++ (number 8 0
     ++ (number 8 100
     ++ (number 8 1
     ++ (number 8 0x31302D5441455254
-    ++ (number 8 0x01020304 ++ (number 8 0xFFF80000 ++ (number 8 188 ++ (number 8 48 ++ (number 8 1 ++ number 8 188)))))))))
+    ++ (number 8 0x01020304 ++ (number 8 0xFFF80000 ++ (number 8 188 ++ (number 8 48 ++ (number 8 1 ++ (number 8 188 ++ number 8 0))))))))))
 unfolding ifRoom test putAll put digit number zeros
-read-answer = ap (λ (r : Reading). answered (zeros 88) (readFields r)) small-reads
+read-answer = ap (λ (r : Reading). answered (zeros 96) (readFields r)) small-reads
 
 -- number, index, how far, in two's complement
 pub move-answer : answered (zeros 24) (moveFields (moving maker 0x00100000)) ≡ number 8 0 ++ (number 8 0 ++ number 8 (2 ^ 64 - 4293394432))
@@ -61,6 +61,6 @@ unfolding ifRoom test putAll put digit number zeros
 audit-answer = ap (λ (r : Audited). answered (zeros 56) (auditFields r)) small-audit
 
 -- one byte less, and the result is 100
-pub short-result : (k : ℕ) → result 11 (zeros 87) k ≡ 100
+pub short-result : (k : ℕ) → result 12 (zeros 95) k ≡ 100
 unfolding ifRoom test zeros
 short-result k = refl

@@ -6,7 +6,7 @@ ghost use Rattle.pajurenda.specs.Promises.{ReadCall, MoveCall, ApplyCall
 pub extern "C" fn pajurenda_read(image: &[u8], answer: &mut [u8]) -> u32
     ensures { λ r. ⌜ ReadCall (now (image .entry)) (now (answer .entry)) r (now (answer .exit)) ⌝ }
 {
-    if answer.len() < 88 {
+    if answer.len() < 96 {
         return 100;
     }
     let r = image::read(image);

@@ -5,4 +5,5 @@ pub mod ApplyingLaws
 pub mod Setting
 pub mod SettingLaws
 pub mod Theorems
+pub mod Older
 pub mod Small

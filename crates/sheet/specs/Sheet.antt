@@ -10,7 +10,7 @@ use Rattle.sheet.specs.declared.Entry.{Entry}
 
 -- for which image it is
 abbrev pub sheetIdentity : List ℕ → Identity
-sheetIdentity s = record { image = le 8 s 0; revision = le 4 s 8 }
+sheetIdentity s = record { image = le 8 s 0; revision = le 4 s 8; extended = le 2 s 14 }
 
 -- m, the number of its entries
 abbrev pub count : List ℕ → ℕ
@@ -47,17 +47,17 @@ follows w body last = 1 ≤? w .size and w .position ≡? body and last ≤? w .
 abbrev pub entryFits : List ℕ → ℕ → Fact
 entryFits s i = follows (entryAt s i) (bodyAt s i) (endBefore s i)
 
--- 15 SHEET, the contents: 16 bytes to 65,535, no more than 256 entries, bytes 14 and 15 clear, and every entry is there
+-- 15 SHEET, the contents: 16 bytes to 65,535, no more than 256 entries, and every entry is there
 abbrev pub contentsFit : List ℕ → Fact
-contentsFit s = 16 ≤? length s and length s ≤? 65535 and count s ≤? 256 and le 2 s 14 ≡? 0 and 16 + 8 * count s ≤? length s
+contentsFit s = 16 ≤? length s and length s ≤? 65535 and count s ≤? 256 and 16 + 8 * count s ≤? length s
 
 -- 15 SHEET, the bodies: each entry is right, and after the last body nothing is missing and nothing left
 abbrev pub bodiesFit : List ℕ → Fact
 bodiesFit s = every (count s) (entryFits s) and bodyAt s (count s) ≡? length s
 
--- 16 IDENTITY: it names this image at this revision
+-- 16 IDENTITY: it names this image at this revision, with this extended number
 abbrev pub sameIdentity : Identity → Identity → Fact
-sameIdentity a b = a .image ≡? b .image and a .revision ≡? b .revision
+sameIdentity a b = a .image ≡? b .image and a .revision ≡? b .revision and a .extended ≡? b .extended
 
 -- 17 FIELD: an entry lies in the settings part, after the region's header
 abbrev pub inField : Entry → ℕ → Fact

@@ -52,9 +52,6 @@ fn contents_fit(sheet: &[u8]) -> bool
     if 256 < m {
         return false;
     }
-    if words::le16(sheet, 14) != 0 {
-        return false;
-    }
     if sheet.len() < 16 + 8 * m {
         return false;
     }
@@ -109,6 +106,7 @@ fn identity_of(sheet: &[u8]) -> Identity
     Identity {
         image: words::le64(sheet, 0) as u64,
         revision: words::le32(sheet, 8) as u32,
+        extended: words::le16(sheet, 14) as u32,
     }
 }
 
@@ -120,6 +118,9 @@ fn same_identity(a: Identity, b: Identity) -> bool
         return false;
     }
     if a.revision != b.revision {
+        return false;
+    }
+    if a.extended != b.extended {
         return false;
     }
     true

@@ -1,4 +1,5 @@
 use Rattle.image.specs.Reading.{identityAt}
+use native.Mathlib.Omega.{arith}
 use borrow.Author.Needs.{needs}
 use Rattle.image.proofs.identity_at.Statement.{statement}
 use Rattle.image.proofs.identity_at.Tie as tie
@@ -18,10 +19,13 @@ le32-requires c κs = search needs
 cast-t8 : tie.Need-cast-t8
 cast-t8 c = search needs
 
+extended-number-requires : tie.Need-extended-number-requires
+extended-number-requires c κs = (omega arith, λ h. omega arith)
+
 returns : tie.Need-returns
 unfolding identityAt
 returns c = cc
 
 pub identity-at-spec : {M : Type 1} → statement M
 identity-at-spec =
-    tie.close (tie.spec add-le64 le64-requires add-le32 le32-requires cast-t8 returns)
+    tie.close (tie.spec add-le64 le64-requires add-le32 le32-requires cast-t8 extended-number-requires returns)

@@ -11,7 +11,7 @@ returns : tie.Need-returns
 returns c =
     let A = c .before .before .before .args .answer .now in
     let h = c .if1 .taken in
-    (sym (short 11 A _ _ h), sym (short 11 A _ _ h))
+    (sym (short 12 A _ _ h), sym (short 12 A _ _ h))
 
 read-requires : tie.Need-read-requires
 read-requires c κs = search needs
@@ -27,7 +27,7 @@ returns-2 c =
     let A = c .before .before .before .before .before .before .before .before .args .answer .now in
     let h = c .before .before .before .before .before .if1 .left in
     let e = c .before .before .before .before .read .ensures in
-    (ap (λ (q : Reading). q .number) e ∙ sym (roomy 11 A _ _ h), c .before .before .write-reading .ensures ∙ ap (λ (q : Reading). putAll 8 A 0 (readFields q)) e ∙ sym (roomy 11 A _ _ h))
+    (ap (λ (q : Reading). q .number) e ∙ sym (roomy 12 A _ _ h), c .before .before .write-reading .ensures ∙ ap (λ (q : Reading). putAll 8 A 0 (readFields q)) e ∙ sym (roomy 12 A _ _ h))
 
 pub pajurenda-read-spec : {M : Type 1} → statement M
 pajurenda-read-spec =

@@ -11,8 +11,14 @@ le32-requires c κs = search needs
 cast-t5 : tie.Need-cast-t5
 cast-t5 c = search needs
 
+le16-requires : tie.Need-le16-requires
+le16-requires c κs = search needs
+
+cast-t7 : tie.Need-cast-t7
+cast-t7 c = search needs
+
 returns : tie.Need-returns
 returns c = cc
 
 pub identity-of-spec : {M : Type 1} → statement M
-identity-of-spec = tie.close (tie.spec le64-requires le32-requires cast-t5 returns)
+identity-of-spec = tie.close (tie.spec le64-requires le32-requires cast-t5 le16-requires cast-t7 returns)

@@ -1,0 +1,71 @@
+-- Request #102 and the sheets written before it, which have zeros in bytes 14 and 15: rule 15 takes them as before, an image without an
+-- extended number answers them as before, and one with another number than 0 refuses them with 16.
+-- Assumes nothing.
+use Prim.Native.Nat.{ℕ, _+_, _*_, _≤_, _<_}
+use mathlib.Core.List.{List}
+use mathlib.Core.Path.{_≡_, refl, sym, ap, _∙_}
+use native.Mathlib.Omega.{arith}
+use lib.ListN.{length}
+use Rattle.facts.specs.Fact.{Fact, Holds, _≤?_, _≡?_, _and_, every, passes, fails, same-test}
+use Rattle.facts.specs.Rules.{Rules, answer, rule, run}
+use Rattle.words.specs.Le.{le}
+use Rattle.header.specs.HeaderLaws.{extended-none}
+use Rattle.image.specs.declared.Identity.{Identity}
+use Rattle.image.specs.Reading.{identityAt, reading}
+use Rattle.image.specs.Guarantee.{guaranteed}
+use Rattle.sheet.specs.declared.Applied.{Applied}
+use Rattle.sheet.specs.Sheet.{sheetIdentity, count, contentsFit, bodiesFit, sameIdentity, fieldFits}
+use Rattle.sheet.specs.Applying.{applied, nameRules, sheetRules, applying}
+use Rattle.sheet.specs.ApplyingLaws.{applying-judged}
+
+-- bytes 14 and 15 are zero
+abbrev pub Older : List ℕ → Type 0
+Older s = le 2 s 14 ≡ 0
+
+-- ---- the rules before the request: 15 wants the two bytes clear, 16 compares image identity and revision
+
+abbrev pub olderContents : List ℕ → Fact
+olderContents s = 16 ≤? length s and length s ≤? 65535 and count s ≤? 256 and le 2 s 14 ≡? 0 and 16 + 8 * count s ≤? length s
+
+abbrev pub olderSame : Identity → Identity → Fact
+olderSame a b = a .image ≡? b .image and a .revision ≡? b .revision
+
+abbrev pub olderRules : Identity → ℕ → List ℕ → Rules Applied
+olderRules identity z s =
+    rule 15 (olderContents s)
+    (rule 15 (bodiesFit s)
+    (rule 16 (olderSame (sheetIdentity s) identity) (rule 17 (every (count s) (fieldFits s z)) (answer (applied 0 0)))))
+
+-- a sheet that passed 15 before passes it now
+pub older-contents : (s : List ℕ) → Holds (olderContents s) → Holds (contentsFit s)
+older-contents s h = (h .0, (h .1 .0, (h .1 .1 .0, h .1 .1 .1 .1)))
+
+-- an image below header revision 6 has no extended number
+pub below-six : (xs : List ℕ) → reading xs .number ≡ 0 → le 1 xs (reading xs .H + 11) < 6 → reading xs .identity .extended ≡ 0
+unfolding identityAt
+below-six xs ok below = ap (λ (i : Identity). i .extended) (guaranteed xs ok .identity-is) ∙ extended-none xs (reading xs .H) below
+
+-- an older sheet is answered as before where the image's extended number is 0
+pub older-as-before : (xs s : List ℕ) → reading xs .number ≡ 0 → Older s → reading xs .identity .extended ≡ 0
+    → applying xs s ≡ run applied (olderRules (reading xs .identity) (reading xs .z) s)
+unfolding run sheetRules nameRules
+older-as-before xs s ok old none =
+    let i = reading xs .identity in
+    applying-judged xs s ok
+    ∙ rw (
+      same-test (contentsFit s) (olderContents s) (λ h. (h .0, (h .1 .0, (h .1 .1 .0, (old, h .1 .1 .1))))) (older-contents s),
+      same-test (sameIdentity (sheetIdentity s) i) (olderSame (sheetIdentity s) i) (λ h. (h .0, h .1 .0))
+          (λ h. (h .0, (h .1, old ∙ sym none))),
+    )
+
+-- and refused with 16, once it passes 15, where it is another
+pub older-refused : (xs s : List ℕ) → reading xs .number ≡ 0 → Older s → Holds (contentsFit s) → Holds (bodiesFit s)
+    → (reading xs .identity .extended ≡ 0 → ⊥) → applying xs s ≡ applied 16 0
+unfolding run sheetRules nameRules
+older-refused xs s ok old contents bodies other =
+    applying-judged xs s ok
+    ∙ rw (
+      passes (contentsFit s) contents,
+      passes (bodiesFit s) bodies,
+      fails (sameIdentity (sheetIdentity s) (reading xs .identity)) (λ h. other (sym (h .1 .1) ∙ old)),
+    )
