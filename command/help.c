@@ -156,9 +156,11 @@ static void show_general(void)
 	fputs(general_help, stdout);
 	for (uint32_t i = PAJURENDA_LENGTH; i <= PAJURENDA_ROOM; i++)
 		show_refusal(i);
+	show_refusal(PAJURENDA_RESERVED);
 	for (uint32_t i = PAJURENDA_BLOCK; i <= PAJURENDA_KIND; i++)
 		show_refusal(i);
-	puts("\nThe audit here makes its list as long as it must be, so 20 is for other callers.");
+	puts("\nAn image is judged in the order 1 to 12, 22, 13, 14; the first that applies is told.\n"
+	     "The audit here makes its list as long as it must be, so 20 is for other callers.");
 }
 
 /* The help on one subcommand, or on all where it is NULL. */

@@ -4,7 +4,6 @@
 #include <errno.h>
 #include <fcntl.h>
 #include <signal.h>
-#include <stdbool.h>
 #include <stdio.h>
 #include <unistd.h>
 
@@ -28,13 +27,14 @@ static void ignore_signals(void)
 	signal(SIGXFSZ, SIG_IGN);
 }
 
-/* Standard output to its end; 0 or the error's number, an early one being lost to EIO. */
+/* Standard output to its end; 0 or the error's number. After an early error nothing may be left to
+   fail again: its number is still in errno, as nothing else is done after writing. */
 static int close_output(void)
 {
-	const bool lost = ferror(stdout) != 0;
+	const int early = ferror(stdout) == 0 ? 0 : errno != 0 ? errno : EIO;
 	if (fclose(stdout) != 0)
 		return errno;
-	return lost ? EIO : 0;
+	return early;
 }
 
 /* The exit status; unwritten standard output is an error. */

@@ -1,4 +1,4 @@
-/* Refusals 1 to 14 in words: what stands in the image where the rule looks. */
+/* Refusals 1 to 14 and 22 in words: what stands in the image where the rule looks. */
 #include <inttypes.h>
 #include <stdio.h>
 
@@ -159,26 +159,42 @@ static void say_upd(const struct letters *w, uint64_t index)
 	fprintf(stderr, ", component %c", component <= 4 ? "?TMSI"[component] : '?');
 }
 
-/* 12 to 14: the entry, and where it points. */
+/* 12, 22, 13, 14: the entry. */
 static void say_entry(const struct letters *w, uint64_t index)
 {
-	const uint64_t entry = entry_at(w, index);
 	say("entry", index);
-	fprintf(stderr, " (counted from 0) is 0x%08" PRIX64 " and points to %" PRId64, entry,
-		where_it_points(entry, w->image->length));
+	fprintf(stderr, " (counted from 0) is 0x%08" PRIX64, entry_at(w, index));
+}
+
+/* 12 to 14: where it points, too. */
+static void say_pointing(const struct letters *w, uint64_t index)
+{
+	say_entry(w, index);
+	fprintf(stderr, " and points to %" PRId64,
+		where_it_points(entry_at(w, index), w->image->length));
 }
 
 /* 12: the entry's type. */
 static void say_type(const struct letters *w, uint64_t index)
 {
-	say_entry(w, index);
+	say_pointing(w, index);
 	say(", its type is", entry_at(w, index) >> 24 & 15);
+}
+
+/* 22: the reserved bits, and the one they must all be like. */
+static void say_reserved(const struct letters *w, uint64_t index)
+{
+	const uint64_t entry = entry_at(w, index);
+	say_entry(w, index);
+	say(", its bit 31 is", entry >> 31 & 1);
+	say(", its bits 30 to 28 are", entry >> 30 & 1);
+	fprintf(stderr, "%" PRIu64 "%" PRIu64, entry >> 29 & 1, entry >> 28 & 1);
 }
 
 /* 13: where the image ends. */
 static void say_place(const struct letters *w, uint64_t index)
 {
-	say_entry(w, index);
+	say_pointing(w, index);
 	fprintf(stderr, ", the image has %zu bytes", w->image->length);
 }
 
@@ -202,7 +218,7 @@ static uint64_t nearest_before(const struct letters *w, uint64_t index)
 static void say_overlap(const struct letters *w, uint64_t index)
 {
 	const uint64_t nearest = nearest_before(w, index);
-	say_entry(w, index);
+	say_pointing(w, index);
 	say(", E", w->E);
 	say(", c", w->c);
 	say(", z", w->z);
@@ -212,7 +228,7 @@ static void say_overlap(const struct letters *w, uint64_t index)
 	fprintf(stderr, " at %" PRId64, where_it_points(entry_at(w, nearest), w->image->length));
 }
 
-/* The values of each rule. */
+/* The values of each of an image's own rules. */
 static void (*const say_values[])(const struct letters *w, uint64_t index) = {
 	[PAJURENDA_LENGTH] = say_one,       [PAJURENDA_VOLUME] = say_volume,
 	[PAJURENDA_FILE] = say_file,        [PAJURENDA_SECTION] = say_section,
@@ -220,14 +236,17 @@ static void (*const say_values[])(const struct letters *w, uint64_t index) = {
 	[PAJURENDA_COMPONENT] = say_component, [PAJURENDA_BASE] = say_base,
 	[PAJURENDA_TABLE] = say_table,      [PAJURENDA_CONFIG] = say_config,
 	[PAJURENDA_UPD] = say_upd,          [PAJURENDA_TYPE] = say_type,
-	[PAJURENDA_PLACE] = say_place,      [PAJURENDA_OVERLAP] = say_overlap,
+	[PAJURENDA_RESERVED] = say_reserved, [PAJURENDA_PLACE] = say_place,
+	[PAJURENDA_OVERLAP] = say_overlap,
 };
 
-/* An image's own refusal, 1 to 14. */
+#define NUMBERS (sizeof say_values / sizeof say_values[0])
+
+/* An image's own refusal. */
 enum status refuse_image(uint32_t number, uint64_t index, const struct named *image)
 {
 	const struct letters w = letters_of(&image->bytes);
-	if (number < PAJURENDA_LENGTH || number > PAJURENDA_OVERLAP)
+	if (number >= NUMBERS || say_values[number] == NULL)
 		return fail_answer();
 	begin_refusal(number, image->name);
 	if (number != PAJURENDA_SIZE)

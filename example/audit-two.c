@@ -60,6 +60,17 @@ static int show(const uint8_t *answer, const uint8_t *places)
 	return explained ? 0 : 1;
 }
 
+/* The refusal's number, name and rule, and the patch entry that it names. */
+static void refuse(uint32_t number, const uint8_t *answer)
+{
+	fprintf(stderr, "refused %lu %s: %s", (unsigned long)number, pajurenda_name(number),
+		pajurenda_sentence(number));
+	if (pajurenda_has_index(number))
+		fprintf(stderr, " (entry %lu, counted from 0)",
+			(unsigned long)pajurenda_field(answer, PAJURENDA_AUDIT_INDEX));
+	fputc('\n', stderr);
+}
+
 /* The audit, first with an empty list; refusal 20 then says how long a list it wants. */
 static int audit(struct bytes vendor, struct bytes shipped)
 {
@@ -81,8 +92,7 @@ static int audit(struct bytes vendor, struct bytes shipped)
 	if (number == PAJURENDA_ACCEPTED)
 		status = show(answer, places);
 	else
-		fprintf(stderr, "refused %lu %s: %s\n", (unsigned long)number,
-			pajurenda_name(number), pajurenda_sentence(number));
+		refuse(number, answer);
 	free(places);
 	return status;
 }

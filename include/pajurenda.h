@@ -9,8 +9,8 @@
  *
  * Each call writes its answer into the caller's answer buffer: 64-bit little-endian numbers at the
  * offsets named below, from the buffer's first byte. Bytes after the answer are kept. The call
- * returns the answer's number: 0 where accepted, else that of the refusal (images 1 to 20, hand-off
- * blocks 30 to 33). Where the answer buffer is shorter than the answer, the call returns
+ * returns the answer's number: 0 where accepted, else that of the refusal (images 1 to 20 and 22,
+ * hand-off blocks 30 to 33). Where the answer buffer is shorter than the answer, the call returns
  * PAJURENDA_SHORT and nothing at all is written anywhere.
  *
  * A refused call changes no byte of an image and no byte of a list.
@@ -30,9 +30,9 @@ extern "C" {
 #endif
 
 /* The version of header and library: the whole, and its three numbers. */
-#define PAJURENDA_VERSION "0.7.0"
+#define PAJURENDA_VERSION "0.8.0"
 #define PAJURENDA_VERSION_MAJOR 0
-#define PAJURENDA_VERSION_MINOR 7
+#define PAJURENDA_VERSION_MINOR 8
 #define PAJURENDA_VERSION_PATCH 0
 
 /* The answer's number. A check is made only if all earlier ones passed. */
@@ -58,6 +58,7 @@ enum {
 	PAJURENDA_NEWBASE = 18,   /* the new base isn't legal */
 	PAJURENDA_PAIR = 19,      /* the two images' lengths differ */
 	PAJURENDA_ROOM = 20,      /* more differences than places */
+	PAJURENDA_RESERVED = 22,  /* a patch entry's bits 30 to 28; with its index; after 12 */
 	PAJURENDA_BLOCK = 30,     /* a hand-off block's header or length; after 32 */
 	PAJURENDA_FIRST = 31,     /* the first block isn't the handoff block of 56 bytes */
 	PAJURENDA_NOTHING = 32,   /* no byte is left where a block should stand; before 30 */
@@ -76,7 +77,7 @@ enum {
 /* The answer of pajurenda_read; where refused, zeros after number and index. */
 enum {
 	PAJURENDA_READ_NUMBER = 0,
-	PAJURENDA_READ_INDEX = 8,      /* the first patch entry at fault for 12 to 14, else 0 */
+	PAJURENDA_READ_INDEX = 8,      /* the first patch entry at fault for 12, 22, 13, 14, else 0 */
 	PAJURENDA_READ_HEADER = 16,    /* H, the position of the FSP header */
 	PAJURENDA_READ_COMPONENT = 24, /* 1 (T), 2 (M), 3 (S) or 4 (I) */
 	PAJURENDA_READ_IDENTITY = 32,  /* the eight bytes at H+16, in the image's order */
@@ -163,39 +164,42 @@ enum {
 	PAJURENDA_HANDOFFS_BYTES = 24
 };
 
-/* Reads an image: number 0 and its facts, or refusal 1 to 14. */
+/*
+ * Reads an image: number 0 and its facts, or one of the image's own refusals, which every call on an
+ * image has: 1 to 12, 22, 13, 14, looked at in this order.
+ */
 uint32_t pajurenda_read(const uint8_t *image, size_t length,
 			uint8_t *answer, size_t answer_length);
 
 /*
- * Moves an image in place: the base word and each patch word; refusals 1 to 14, then 18. A base of
- * 2^32 or more isn't legal; it is never cut down.
+ * Moves an image in place: the base word and each patch word; the image's own refusals, then 18. A
+ * base of 2^32 or more isn't legal; it is never cut down.
  */
 uint32_t pajurenda_move(uint8_t *image, size_t length, uint64_t base,
 			uint8_t *answer, size_t answer_length);
 
 /*
- * Applies a release sheet in place, in the settings part alone; refusals 1 to 14, then 15, 16, 17.
- * The sheet is for an image by three parts: identity (its bytes 0 to 7), revision (8 to 11) and
- * extended number (14 and 15; older sheets have 0 there).
+ * Applies a release sheet in place, in the settings part alone; the image's own refusals, then 15,
+ * 16, 17. The sheet is for an image by three parts: identity (its bytes 0 to 7), revision (8 to 11)
+ * and extended number (14 and 15; older sheets have 0 there).
  */
 uint32_t pajurenda_apply(uint8_t *image, size_t length,
 			 const uint8_t *sheet, size_t sheet_length,
 			 uint8_t *answer, size_t answer_length);
 
 /*
- * Finds one setting by offset in the region and size; refusals 1 to 14, then 17. Its answer has no
- * index; pajurenda_read names the entry of 12 to 14.
+ * Finds one setting by offset in the region and size; the image's own refusals, then 17. Its answer
+ * has no index; pajurenda_read names the entry of 12, 22, 13 and 14.
  */
 uint32_t pajurenda_setting(const uint8_t *image, size_t length, uint64_t offset, uint64_t size,
 			   uint8_t *answer, size_t answer_length);
 
 /*
- * Audits a shipped image against the vendor's, moved to the shipped base; vendor refusals 1 to 14,
- * then 19, 18, 20. The list has places_length / 4 places of four little-endian bytes, filled in
- * order of position: the position of a differing setting byte, or the position + 16,777,216 of a
- * stray. Bytes after the last entry are kept. For 20, settings + strays is the number of places
- * to ask again with.
+ * Audits a shipped image against the vendor's, moved to the shipped base; the vendor image's own
+ * refusals, then 19, 18, 20. The list has places_length / 4 places of four little-endian bytes,
+ * filled in order of position: the position of a differing setting byte, or the position +
+ * 16,777,216 of a stray. Bytes after the last entry are kept. For 20, settings + strays is the
+ * number of places to ask again with.
  */
 uint32_t pajurenda_audit(const uint8_t *vendor, size_t vendor_length,
 			 const uint8_t *shipped, size_t shipped_length,
@@ -239,6 +243,13 @@ static inline int64_t pajurenda_signed_field(const uint8_t *answer, size_t field
 {
 	const uint64_t value = pajurenda_field(answer, field);
 	return value >> 63 == 0 ? (int64_t)value : -(int64_t)~value - 1;
+}
+
+/* 1 where a refusal names a patch entry: the answer's index is that entry's, counted from 0. */
+static inline int pajurenda_has_index(uint32_t number)
+{
+	return (number >= PAJURENDA_TYPE && number <= PAJURENDA_OVERLAP) ||
+	       number == PAJURENDA_RESERVED;
 }
 
 /* The eight bytes of the identity in the answer of pajurenda_read. */
@@ -344,6 +355,7 @@ static inline const char *pajurenda_name(uint32_t number)
 	case PAJURENDA_NEWBASE: return "NEWBASE";
 	case PAJURENDA_PAIR: return "PAIR";
 	case PAJURENDA_ROOM: return "ROOM";
+	case PAJURENDA_RESERVED: return "RESERVED";
 	case PAJURENDA_BLOCK: return "BLOCK";
 	case PAJURENDA_FIRST: return "FIRST";
 	case PAJURENDA_NOTHING: return "NOTHING";
@@ -353,7 +365,7 @@ static inline const char *pajurenda_name(uint32_t number)
 	}
 }
 
-/* The rules 1 to 14, for pajurenda_sentence; h, V, s, L, E and z are document 01's letters. */
+/* An image's own rules, for pajurenda_sentence; h, V, s, L, E and z are document 01's letters. */
 static inline const char *pajurenda_image_sentence(uint32_t number)
 {
 	switch (number) {
@@ -381,6 +393,7 @@ static inline const char *pajurenda_image_sentence(uint32_t number)
 		return "the region must have 32 to 65536 bytes, from E on and within the image";
 	case PAJURENDA_UPD: return "the region's mark must be _ and the component's letter";
 	case PAJURENDA_TYPE: return "a patch entry's type must be 0 or 15";
+	case PAJURENDA_RESERVED: return "a patch entry's bits 30 to 28 must all be as its bit 31 is";
 	case PAJURENDA_PLACE: return "a patch word must lie inside the image";
 	default: return "a patch word must be clear of tables, region and earlier words";
 	}
@@ -404,7 +417,8 @@ static inline const char *pajurenda_handoff_sentence(uint32_t number)
 /* The rule behind an answer's number in a sentence; "unknown" where it is no answer. */
 static inline const char *pajurenda_sentence(uint32_t number)
 {
-	if (number >= PAJURENDA_LENGTH && number <= PAJURENDA_OVERLAP)
+	if ((number >= PAJURENDA_LENGTH && number <= PAJURENDA_OVERLAP) ||
+	    number == PAJURENDA_RESERVED)
 		return pajurenda_image_sentence(number);
 	if (number >= PAJURENDA_BLOCK && number <= PAJURENDA_KIND)
 		return pajurenda_handoff_sentence(number);

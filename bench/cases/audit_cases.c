@@ -26,9 +26,9 @@ static void audit_kinds(unsigned k)
 	const uint64_t at[] = {
 		0, 31, 32, 40, 49, 50, 71, spot.f, spot.f + 17, spot.f + 20, spot.f + 24, spot.H, spot.H + 11,
 		spot.H + 12, spot.H + 16, spot.H + 24, spot.H + 27, spot.H + 32, spot.H + 35, spot.H + 36,
-		spot.H + 40, spot.H + 76, spot.H + 77, spot.g, spot.p, spot.p + 8, spot.p + 12, spot.E - 1, spot.E, now.c - 1, now.c,
-		now.c + 6, now.c + 7, now.c + 31, now.c + 32, now.c + 33, now.c + now.z - 2,
-		now.c + now.z - 1, now.c + now.z, word - 1, word, word + 1, word + 2, word + 3, word + 4,
+		spot.H + 40, spot.H + 76, spot.H + 77, spot.g, spot.p, spot.p + 8, spot.p + 12, spot.p + 15,
+		spot.E - 1, spot.E, now.c - 1, now.c, now.c + 6, now.c + 7, now.c + 31, now.c + 32, now.c + 33,
+		now.c + now.z - 2, now.c + now.z - 1, now.c + now.z, word - 1, word, word + 1, word + 2, word + 3, word + 4,
 		now.length - 1,
 	};
 	for (size_t i = 0; i < COUNT(at); i++) {
@@ -65,7 +65,7 @@ static void audit_shadow(unsigned k)
 		{ spot.H + 36, now.c + 1 }, { spot.H + 36, now.c - 4 }, { spot.H + 40, now.z + 4 },
 		{ spot.H + 40, now.z - 4 }, { spot.H + 40, 32 }, { spot.p + 8, now.n - 1 },
 		{ spot.p + 8, 0 }, { spot.p + 12, now.entry[0] + 4 }, { spot.p + 12, now.entry[0] - 4 },
-		{ spot.H, 'G' }, { spot.p + 15, 5 }, { spot.H + 4, now.L + 1 },
+		{ spot.H, 'G' }, { spot.p + 15, 5 }, { spot.p + 15, 0x8F }, { spot.p + 19, 0x1F }, { spot.H + 4, now.L + 1 },
 		{ spot.H + 11, now.header_revision < 6 ? 6 : 5 }, { spot.H + 76, now.extended + 1 },
 	};
 	for (size_t i = 0; i < COUNT(number); i++) {
@@ -120,11 +120,12 @@ static void audit_pair(unsigned k)
 	audit(1, 18);
 }
 
-/* Refusals 1 to 14 of the vendor's image, alone and before 18, 19 and 20. */
+/* The refusals of the vendor's image, alone and before 18, 19 and 20. */
 static void audit_refused(unsigned k)
 {
 	small(k);
-	for (unsigned number = 1; number < 15; number++) {
+	for (size_t i = 0; i < RULES; i++) {
+		const unsigned number = rule[i];
 		ship(random_base());
 		const uint64_t len = build_broken(number);
 		const uint64_t more = k % 3 == 1 ? 1 : 0;

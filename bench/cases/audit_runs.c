@@ -77,7 +77,7 @@ static void build_vendor(uint64_t length, uint64_t base)
 	now.c = 4096;
 	now.z = 400;
 	for (uint64_t k = 0; k < now.n; k++)
-		now.entry[k] = word(place[k], k >= 2, 0, k >= 2 ? 15 : 0);
+		now.entry[k] = word(place[k], k >= 2, k >= 2 ? 15 : 0);
 	build();
 	for (uint64_t k = 0; k < now.n; k++)
 		put(place[k], 4, value[k]);
@@ -153,7 +153,7 @@ static void make_shipped_long(void)
 static void make_refused_long(void)
 {
 	make_pair(8192);
-	put(spot.p + 12 + 4 * 2, 4, word(4501, true, 0, 15));
+	put(spot.p + 12 + 4 * 2, 4, word(4501, true, 15));
 	if (second_read(image, now.length).number != 14)
 		fail("not refusal 14");
 	shipped_length = LONGEST + 1;

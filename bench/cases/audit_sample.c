@@ -74,7 +74,7 @@ static void build_vendor(void)
 	now.c = 4096;
 	now.z = 400;
 	for (uint64_t k = 0; k < now.n; k++)
-		now.entry[k] = word(place[k], k >= 2, 0, k >= 2 ? 15 : 0);
+		now.entry[k] = word(place[k], k >= 2, k >= 2 ? 15 : 0);
 	build();
 	for (uint64_t k = 0; k < now.n; k++)
 		put(place[k], 4, value[k]);
@@ -118,7 +118,7 @@ static void make_explained(void)
 static void make_refused(void)
 {
 	build_vendor();
-	put(spot.p + 12 + 4 * 2, 4, word(4501, true, 0, 15));
+	put(spot.p + 12 + 4 * 2, 4, word(4501, true, 15));
 	memcpy(sheet, image, now.length);
 	const struct second_reading r = second_read(image, now.length);
 	if (r.number != 14 || r.index != 2)

@@ -5,6 +5,7 @@
 #include <stdlib.h>
 
 const char letter[5] = { '?', 'T', 'M', 'S', 'I' };
+const unsigned rule[RULES] = { 1, 2, 3, 4, 5, 6, 7, 8, 9, 10, 11, 12, 22, 13, 14 };
 
 struct plan now;
 struct spots spot;
@@ -97,11 +98,17 @@ void text(uint64_t at, const char *what)
 
 /* ---- the builder ---- */
 
-/* An entry word for a place; back: bit 31 set, a distance back from the image's end. */
-uint64_t word(uint64_t place, bool back, uint64_t bits, uint64_t type)
+/* An entry word for a place; back: bits 31..28 set, a distance back from the image's end. */
+uint64_t word(uint64_t place, bool back, uint64_t type)
 {
 	const uint64_t low = back ? (TWO24 - now.length + place) % TWO24 : place % TWO24;
-	return (back ? UINT64_C(0x80000000) : 0) | bits << 28 | type << 24 | low;
+	return (back ? UINT64_C(0xF0000000) : 0) | type << 24 | low;
+}
+
+/* Refusal 22: an entry word with some of its bits 30..28 turned, which makes a right one wrong. */
+uint64_t reserved(uint64_t entry, uint64_t bits)
+{
+	return entry ^ bits << 28;
 }
 
 /* Refusals 3, 5 and 9: where f, H, FSPE, p and E come to stand. */
@@ -125,7 +132,7 @@ void settle(void)
 		now.c += 4 * now.n;
 	for (uint64_t k = 0; k < now.n; k++) {
 		const uint64_t place = now.before ? spot.E + 4 * k : now.c + now.z + now.room + 8 * k;
-		now.entry[k] = word(place, k % 2 == 1, k % 8, k % 3 == 1 ? 15 : 0);
+		now.entry[k] = word(place, k % 2 == 1, k % 3 == 1 ? 15 : 0);
 	}
 }
 
@@ -344,7 +351,7 @@ void arrange(size_t i)
 		{ spot.E + 1, spot.E + 5, end + 3 }, { now.length - 5, end, spot.E },
 	};
 	for (uint64_t j = 0; j < 3; j++)
-		now.entry[j] = word(place[i][j], (i + j) % 3 != 1, j, 15 * (j % 2));
+		now.entry[j] = word(place[i][j], (i + j) % 3 != 1, 15 * (j % 2));
 }
 
 /* A small whole plan with every part drawn from the sequence. */
@@ -388,15 +395,16 @@ void break_rule(unsigned number)
 	case 11: put(now.c + 6, 1, '-'); break;
 	case 12: put(spot.p + 12 + 4, 4, 0x02000000); break;
 	case 13: put(spot.p + 12, 4, 0xFFFFFFFE); break;
-	case 14: put(spot.p + 12 + 8, 4, word(now.c + 1, false, 0, 0)); break;
+	case 14: put(spot.p + 12 + 8, 4, word(now.c + 1, false, 0)); break;
+	case 22: put(spot.p + 12 + 8, 4, reserved(get(spot.p + 12 + 8, 4), 2)); break;
 	default: break;
 	}
 }
 
-/* Refusals 12 to 14: the index of the entry break_rule puts at fault. */
+/* Refusals 12 to 14 and 22: the index of the entry break_rule puts at fault. */
 uint64_t broken_index(unsigned number)
 {
-	return number == 12 ? 1 : number == 14 ? 2 : 0;
+	return number == 12 ? 1 : number == 14 || number == 22 ? 2 : 0;
 }
 
 /* The planned image with one rule broken, the sums made right again; gives the length to lend. */

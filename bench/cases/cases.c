@@ -4,7 +4,7 @@
 #include <inttypes.h>
 #include <string.h>
 
-/* The parts, and the numbers their call can give besides 1..14. */
+/* The parts, and the numbers their call can give besides the image's refusals. */
 static const struct {
 	const char *name;
 	void (*write)(void);
@@ -45,8 +45,8 @@ static bool enough_numbers(size_t i)
 {
 	const uint64_t *count = given[part[i].call];
 	bool enough = true;
-	for (unsigned number = 1; number < 15; number++)
-		enough = enough && count[number] >= 3;
+	for (size_t k = 0; k < RULES; k++)
+		enough = enough && count[rule[k]] >= 3;
 	for (size_t k = 0; k < COUNT(part[i].more); k++)
 		enough = enough && count[part[i].more[k]] >= 3;
 	return enough;

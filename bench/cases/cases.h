@@ -49,7 +49,8 @@ void text(uint64_t at, const char *what);
 void put_sheet(uint64_t at, uint64_t width, uint64_t value);
 uint64_t get_sheet(uint64_t at, uint64_t width);
 
-uint64_t word(uint64_t place, bool back, uint64_t bits, uint64_t type);
+uint64_t word(uint64_t place, bool back, uint64_t type);
+uint64_t reserved(uint64_t entry, uint64_t bits);
 uint64_t place_of(uint64_t k);
 uint64_t highest_base(void);
 uint64_t extended_number(void);
@@ -70,6 +71,10 @@ void break_rule(unsigned number);
 uint64_t broken_index(unsigned number);
 uint64_t build_broken(unsigned number);
 
+/* The image's refusals in the order of judging, 22 after 12. */
+#define RULES 15
+extern const unsigned rule[RULES];
+
 #define SMALLS 8
 #define ARRANGEMENTS 11
 
@@ -87,7 +92,7 @@ void send_case(const struct order *order);
 void change_image(const uint8_t *bytes, uint64_t len);
 
 /* calls.c: one case of each call, with the number and index it is aimed at. */
-#define NUMBERS 21
+#define NUMBERS 23
 
 extern FILE *answers;
 extern uint64_t given[CALLS][NUMBERS];

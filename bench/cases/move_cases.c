@@ -108,26 +108,30 @@ static void move_all_values(void)
 		move_values(pair[i][0], pair[i][1], (unsigned)i % SMALLS);
 }
 
-/* "Where an entry points": both ways, with bits 30..28 of every value. */
+/* "Where an entry points" and refusal 22: both ways, with bits 30..28 of the last entry turned in every way. */
 static void move_bits(unsigned k)
 {
 	small(k);
+	const uint64_t last = now.n - 1;
 	for (uint64_t bits = 0; bits < 8; bits++) {
 		for (uint64_t j = 0; j < now.n; j++)
-			now.entry[j] = word(place_of(j), (bits + j + k) % 2 == 0, bits, 15 * (j % 2));
+			now.entry[j] = word(place_of(j), (bits + j + k) % 2 == 0, 15 * (j % 2));
 		move_to(random_base(), 0);
+		build();
+		put(spot.p + 12 + 4 * last, 4, reserved(now.entry[last], bits));
+		show_move(now.length, random_base(), bits == 0 ? 0 : 22, bits == 0 ? 0 : last);
 	}
 }
 
-/* Refusals 1 to 14, to a base that is legal or not. */
+/* The image's refusals, to a base that is legal or not. */
 static void move_refused(unsigned k, bool legal_base)
 {
-	for (unsigned number = 1; number < 15; number++) {
+	for (size_t i = 0; i < RULES; i++) {
 		small(k);
-		const uint64_t len = build_broken(number);
+		const uint64_t len = build_broken(rule[i]);
 		const uint64_t base = random_base();
 		const uint64_t low = legal_base ? 0 : 1 + below(4095);
-		show_move(len, base + low, number, broken_index(number));
+		show_move(len, base + low, rule[i], broken_index(rule[i]));
 	}
 }
 
@@ -163,16 +167,17 @@ static void move_sizes(void)
 	}
 }
 
-/* Refusals 12 to 14 in the last entry alone: nothing is patched. */
+/* Refusals 12 to 14 and 22 in the last entry alone: nothing is patched. */
 static void move_last(unsigned k, uint64_t n)
 {
 	small(k);
 	now.n = n;
 	fit(9);
 	const uint64_t fault[][2] = {
-		{ 0x0EFFFFFC, 12 }, { 0xFFFFFFFD, 13 }, { now.length - 3, 13 }, { 0x80000000, 13 },
+		{ 0x0EFFFFFC, 12 }, { 0xFFFFFFFD, 13 }, { now.length - 3, 13 }, { 0xF0000000, 13 },
+		{ 0x80000000, 22 }, { 0x8F000000, 22 }, { 0x10000000 | spot.E, 22 }, { 0xBFFFFFFC, 22 },
 		{ spot.E - 1, 14 }, { now.c - 3, 14 }, { now.c + now.z - 1, 14 }, { place_of(0) + 3, 14 },
-		{ word(place_of(n - 2) - 3, true, 0, 15), 14 }, { spot.H + 28, 14 },
+		{ word(place_of(n - 2) - 3, true, 15), 14 }, { spot.H + 28, 14 },
 	};
 	for (size_t i = 0; i < COUNT(fault); i++) {
 		build();

@@ -64,6 +64,10 @@ static const struct {
 	{ damage_twice, "1" },
 	{ damage_between, "03" },
 	{ damage_passes, "0" },
+	{ reserved_bits, "13" },
+	{ reserved_words, "02" },
+	{ reserved_tables, "02" },
+	{ reserved_beside, "13" },
 	{ cut_lengths, "0" },
 	{ random_bytes, "0123" },
 	{ random_lengths, "0123" },
@@ -78,7 +82,7 @@ static void damaged_images(void)
 			task[i].damage((unsigned)(*k - '0'));
 }
 
-/* The read part: some 3,300 cases. */
+/* The read part: some 3,800 cases. */
 void read_part(void)
 {
 	begin_part(UINT64_C(0x9E3779B97F4A7C15), true);

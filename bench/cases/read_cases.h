@@ -70,6 +70,12 @@ void damage_twice(unsigned k);
 void damage_between(unsigned k);
 void damage_passes(unsigned k);
 
+/* read_reserved.c */
+void reserved_bits(unsigned k);
+void reserved_words(unsigned k);
+void reserved_tables(unsigned k);
+void reserved_beside(unsigned k);
+
 /* read_random.c */
 void several_rules(void);
 void cut_lengths(unsigned k);

@@ -1,4 +1,4 @@
-/* Reading cases: refusals 12 to 14, the entries. */
+/* Reading cases: refusals 12 to 14, the entries; those of 22 are in read_reserved.c. */
 #include "read_cases.h"
 
 /* Refusal 12: types 1..14 at the first, a middle and the last entry. */
@@ -26,22 +26,22 @@ void damage_place(unsigned k)
 	const uint64_t at[] = { 0, now.n / 2, now.n - 1 };
 	const uint64_t out[] = {
 		now.length - 3, now.length - 2, now.length - 1, now.length, now.length + 1,
-		0xFFFFFFFD, 0xFFFFFFFE, 0xFFFFFFFF, 0x80000000, 0x8F000000, 0x00F80000, 0x0007FFFC,
-		0x00FFFFFF, 0x00FFFFFC, 0x7FFFFFFC, 0x0F800000, 0xF0000000,
-		0x80000000 | (back0 - 1), 0x80000000 | (back0 - 3), 0xFF000000 | (back0 - 4),
-		0x80000000 | (back0 - 5), 0x80000000 | now.length, 0x80000000 | spot.E,
+		0xFFFFFFFD, 0xFFFFFFFE, 0xFFFFFFFF, 0xF0FFFFFD, 0xFF000000, 0x00F80000, 0x0007FFFC,
+		0x00FFFFFF, 0x00FFFFFC, 0x0FFFFFFC, 0x0F800000, 0xF0000000,
+		0xF0000000 | (back0 - 1), 0xF0000000 | (back0 - 3), 0xFF000000 | (back0 - 4),
+		0xF0000000 | (back0 - 5), 0xF0000000 | now.length, 0xF0000000 | spot.E,
 	};
 	const uint64_t in[] = {
-		now.length - 4, now.length - 5, 0xFFFFFFFC, 0xFFFFFFFB, 0x80FFFFFC, 0x8FFFFFFC,
-		0x70000000 | (now.length - 4), 0x7F000000 | (now.length - 4),
-		0x80000000 | (back0 + now.length - 4),
+		now.length - 4, now.length - 5, 0xFFFFFFFC, 0xFFFFFFFB, 0xF0FFFFFC, 0xF0FFFFFB,
+		0x0F000000 | (now.length - 4), 0x0F000000 | (now.length - 5),
+		0xF0000000 | (back0 + now.length - 4),
 	};
 	for (size_t i = 0; i < COUNT(out); i++)
 		entry(at[i % 3], out[i], 13);
 	for (size_t i = 0; i < COUNT(in); i++)
 		entry(at[i % 3], in[i], 0);
-	entry(0, 0x80000000 | back0, 14);
-	entry(1, 0x8F000000 | (back0 + 1), 14);
+	entry(0, 0xF0000000 | back0, 14);
+	entry(1, 0xFF000000 | (back0 + 1), 14);
 	entry(1, 0, 14);
 }
 
@@ -57,14 +57,14 @@ void damage_overlap(unsigned k)
 			const bool low = place < spot.E;
 			const bool inside = place < end && place + 4 > now.c;
 			if (i < 3 || d % 3 == 0)
-				entry((i + d) % now.n, word(place, (i + d) % 2 == 1, d % 8, 15 * (d % 2)),
+				entry((i + d) % now.n, word(place, (i + d) % 2 == 1, 15 * (d % 2)),
 				      low || inside ? 14 : 0);
 		}
 	}
-	entry(0, word(spot.H + 28, false, 0, 0), 14);
-	entry(now.n - 1, word(spot.H + 28, true, 0, 15), 14);
-	entry(2, word(0, true, 0, 15), 14);
-	entry(2, word(spot.E - 4, false, 0, 15), 14);
+	entry(0, word(spot.H + 28, false, 0), 14);
+	entry(now.n - 1, word(spot.H + 28, true, 15), 14);
+	entry(2, word(0, true, 15), 14);
+	entry(2, word(spot.E - 4, false, 15), 14);
 }
 
 /* Refusal 14: two words 0 to 5 bytes apart on either side, the later one being at fault. */
@@ -78,8 +78,8 @@ void damage_twice(unsigned k)
 			const bool apart = d < 2 || d > 8;
 			const bool back = (d + i + k) % 2 == 0;
 			build();
-			put(spot.p + 12 + 4 * pair[i][0], 4, word(place, back, d % 8, 0));
-			put(spot.p + 12 + 4 * pair[i][1], 4, word(place + d - 5, d % 3 == 0, 0, 15));
+			put(spot.p + 12 + 4 * pair[i][0], 4, word(place, back, 0));
+			put(spot.p + 12 + 4 * pair[i][1], 4, word(place + d - 5, d % 3 == 0, 15));
 			show(now.length, apart ? 0 : 14, apart ? 0 : pair[i][1]);
 		}
 	}
@@ -101,34 +101,41 @@ void damage_between(unsigned k)
 		const uint64_t index = place[i][3];
 		build();
 		for (uint64_t j = 0; j < 3; j++)
-			put(spot.p + 12 + 4 * j, 4, word(place[i][j], (i + j) % 2 == 0, j, 0));
+			put(spot.p + 12 + 4 * j, 4, word(place[i][j], (i + j) % 2 == 0, 0));
 		show(now.length, index == 9 ? 0 : 14, index == 9 ? 0 : index);
 	}
 }
 
-/* Refusals 12 to 14 one after the other: every arrangement of faults on three entries. */
+/* The passes over all entries: 12, 22, 13, 14. */
+static uint64_t rank(uint64_t number)
+{
+	return number == 22 ? 25 : 2 * number;
+}
+
+/* Refusals 12, 22, 13, 14 one after the other: every arrangement of faults on three entries, some faulty in two ways. */
 void damage_passes(unsigned k)
 {
 	start(k);
-	const uint64_t fault[6] = {
-		0, 0x05FFFFFC, word(now.length - 3, false, 2, 0), word(spot.E - 1, true, 1, 15),
-		0x81000000, word(spot.E - 2, false, 0, 14),
+	const uint64_t out = word(now.length - 3, false, 0), low = word(spot.E - 1, true, 15);
+	const uint64_t fault[8] = {
+		0, 0x05FFFFFC, reserved(now.entry[0], 1), out, low,
+		0x81000000, reserved(out, 4), reserved(low, 2),
 	};
-	static const uint64_t number[6] = { 0, 12, 13, 14, 12, 12 };
-	for (uint64_t mix = 0; mix < 216; mix++) {
-		const uint64_t kind[3] = { mix % 6, mix / 6 % 6, mix / 36 };
-		uint64_t lowest = 0, index = 0;
-		if (mix % 5 != k && (kind[0] > 3 || kind[1] > 3 || kind[2] > 3))
+	static const uint64_t number[8] = { 0, 12, 22, 13, 14, 12, 22, 22 };
+	for (uint64_t mix = 0; mix < 512; mix++) {
+		const uint64_t kind[3] = { mix % 8, mix / 8 % 8, mix / 64 };
+		uint64_t first = 0, index = 0;
+		if (mix % 5 != k && (kind[0] > 4 || kind[1] > 4 || kind[2] > 4))
 			continue;
 		build();
 		for (uint64_t j = 0; j < 3; j++) {
 			if (kind[j] != 0)
 				put(spot.p + 12 + 4 * j, 4, fault[kind[j]]);
-			if (number[kind[j]] != 0 && (lowest == 0 || number[kind[j]] < lowest)) {
-				lowest = number[kind[j]];
+			if (number[kind[j]] != 0 && (first == 0 || rank(number[kind[j]]) < rank(first))) {
+				first = number[kind[j]];
 				index = j;
 			}
 		}
-		show(now.length, lowest, index);
+		show(now.length, first, index);
 	}
 }

@@ -98,14 +98,14 @@ void extended_order(void)
 {
 	static const uint64_t revision[] = { 5, 6, 255 };
 	for (size_t i = 0; i < COUNT(revision); i++) {
-		for (unsigned number = 1; number < 15; number++) {
+		for (size_t j = 0; j < RULES; j++) {
 			start_revision(revision[i], 79);
-			const uint64_t len = build_broken(number);
-			const bool newer = revision[i] >= 6 && number > 5;
-			show(len, newer ? 5 : number, newer ? 0 : broken_index(number));
+			const uint64_t len = build_broken(rule[j]);
+			const bool newer = revision[i] >= 6 && rule[j] > 5;
+			show(len, newer ? 5 : rule[j], newer ? 0 : broken_index(rule[j]));
 		}
 		start_revision(revision[i], 80);
-		for (unsigned number = 5; number < 15; number++)
-			show(build_broken(number), number, broken_index(number));
+		for (size_t j = 4; j < RULES; j++)
+			show(build_broken(rule[j]), rule[j], broken_index(rule[j]));
 	}
 }

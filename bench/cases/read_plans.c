@@ -79,5 +79,5 @@ void entry(uint64_t k, uint64_t value, uint64_t number)
 {
 	build();
 	put(spot.p + 12 + 4 * k, 4, value);
-	show(now.length, number, number >= 12 && number <= 14 ? k : 0);
+	show(now.length, number, number == 22 || (number >= 12 && number <= 14) ? k : 0);
 }

@@ -1,35 +1,35 @@
 /* Reading cases: several rules broken at once, and damage by the fixed sequence. */
 #include "read_cases.h"
 
-/* The lowest number that applies. */
+/* The first rule that applies; bit k of the set is the k-th in the order of judging. */
 static void break_all(unsigned set)
 {
-	unsigned lowest = 0;
+	unsigned first = 0;
 	build();
-	for (unsigned number = 14; number > 0; number--) {
-		if ((set >> number & 1) != 0) {
-			break_rule(number);
-			lowest = number;
+	for (unsigned k = RULES; k > 0; k--) {
+		if ((set >> (k - 1) & 1) != 0) {
+			first = rule[k - 1];
+			break_rule(first);
 		}
 	}
 	mend();
-	show(lowest == 1 ? 71 : now.length, lowest, broken_index(lowest));
+	show(first == 1 ? 71 : now.length, first, broken_index(first));
 }
 
 /* Every pair of rules, all from one on, and sets by the fixed sequence. */
 void several_rules(void)
 {
-	for (unsigned a = 1; a < 15; a++) {
+	for (unsigned a = 0; a < RULES; a++) {
 		start(a % PLANS);
 		break_all(1u << a);
-		for (unsigned b = a + 1; b < 15; b++)
+		for (unsigned b = a + 1; b < RULES; b++)
 			break_all(1u << a | 1u << b);
 		break_all(0x7FFFu & ~((1u << a) - 1));
 	}
 	for (unsigned i = 0; i < 60; i++) {
 		if (i % 15 == 0)
 			start(i / 15);
-		const unsigned set = (unsigned)below(0x8000) & 0x7FFCu;
+		const unsigned set = (unsigned)below(0x8000) & 0x7FFEu;
 		break_all(set & (unsigned)below(0x8000));
 	}
 }
@@ -171,7 +171,7 @@ void random_plans(void)
 	}
 }
 
-/* Refusals 12 to 14: crowded words about the region, seldom one of another type or outside. */
+/* Refusals 12 to 14 and 22: crowded words about the region, seldom one of another type, turned or outside. */
 void random_crowd(unsigned k)
 {
 	start(k);
@@ -184,9 +184,9 @@ void random_crowd(unsigned k)
 			const uint64_t place = far + (far == from && i % 2 == 0 ? below(64) : below(260));
 			const uint64_t type = below(60) == 0 ? below(16) : 15 * below(2);
 			const bool back = below(2) == 0;
-			const uint64_t bits = below(8);
+			const uint64_t bits = below(60) == 0 ? below(8) : 0;
 			if (j == 0 || i % 2 == 1 || below(4) == 0)
-				now.entry[j] = word(place, back, bits, type);
+				now.entry[j] = reserved(word(place, back, type), bits);
 		}
 		build();
 		show(now.length, ANY, 0);

@@ -145,10 +145,10 @@ void whole_entry_bits(void)
 		const uint64_t place = now.c + now.z + 17;
 		for (uint64_t bits = 0; bits < 8; bits++) {
 			for (uint64_t i = k; i < now.n; i += now.n) {
-				entry(i, word(place, false, bits, 0), 0);
-				entry(i, word(place, false, bits, 15), 0);
-				entry(i, word(place, true, bits, 0), 0);
-				entry(i, word(place, true, bits, 15), 0);
+				entry(i, reserved(word(place, false, 0), bits), bits == 0 ? 0 : 22);
+				entry(i, reserved(word(place, false, 15), bits), bits == 0 ? 0 : 22);
+				entry(i, reserved(word(place, true, 0), bits), bits == 0 ? 0 : 22);
+				entry(i, reserved(word(place, true, 15), bits), bits == 0 ? 0 : 22);
 			}
 		}
 	}
@@ -171,7 +171,7 @@ void whole_places(void)
 		};
 		for (size_t i = 0; i < COUNT(place); i++) {
 			for (uint64_t j = 0; j < 3; j++)
-				now.entry[j] = word(place[i][j], (i + j + k) % 3 != 1, j, 15 * (j % 2));
+				now.entry[j] = word(place[i][j], (i + j + k) % 3 != 1, 15 * (j % 2));
 			plain(0);
 		}
 	}
@@ -236,14 +236,17 @@ void whole_most(void)
 	plain(0);
 	hit(spot.p + 8, 4, 1025, 9);
 	hit(spot.p + 8, 4, 1023, 0);
-	entry(0, word(spot.E - 1, false, 0, 0), 14);
+	entry(0, word(spot.E - 1, false, 0), 14);
 	entry(1023, now.entry[0], 14);
 	entry(1023, now.entry[1022] + 3, 14);
 	entry(1023, now.entry[1022] + 4, 0);
-	entry(511, word(now.length - 3, true, 7, 15), 13);
-	entry(1023, word(now.length - 3, false, 0, 0), 13);
-	entry(1023, word(now.length - 4, false, 0, 15), 0);
+	entry(511, word(now.length - 3, true, 15), 13);
+	entry(1023, word(now.length - 3, false, 0), 13);
+	entry(1023, word(now.length - 4, false, 15), 0);
 	entry(1023, 0x0E000000, 12);
+	entry(1023, reserved(now.entry[1023], 4), 22);
+	put(spot.p + 12 + 4 * 511, 4, reserved(now.entry[511], 1));
+	show(now.length, 22, 511);
 	entry(512, 0xF1FFFFFC, 12);
 	put(spot.p + 12, 4, 0x00FFFFFF);
 	show(now.length, 12, 512);

@@ -84,13 +84,13 @@ static void setting_narrow(void)
 	}
 }
 
-/* Refusals 1 to 14, the part asked for being good or not. */
+/* The image's refusals, the part asked for being good or not. */
 static void setting_refused(unsigned k, bool good)
 {
 	setting_start(k);
-	for (unsigned number = 1; number < 15; number++) {
-		const uint64_t len = build_broken(number);
-		show_setting(len, good ? 40 : 31, good ? 3 : UINT64_MAX, number);
+	for (size_t i = 0; i < RULES; i++) {
+		const uint64_t len = build_broken(rule[i]);
+		show_setting(len, good ? 40 : 31, good ? 3 : UINT64_MAX, rule[i]);
 	}
 }
 

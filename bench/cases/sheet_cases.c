@@ -108,15 +108,15 @@ static void sheet_longest(void)
 	show_apply(now.length, 65536, 15, 0);
 }
 
-/* Refusals 1 to 14 with a good sheet. */
+/* The image's refusals with a good sheet. */
 static void sheet_refused(unsigned k)
 {
 	sheet_start(k);
 	draft_standard();
 	write_draft();
-	for (unsigned number = 1; number < 15; number++) {
-		const uint64_t len = build_broken(number);
-		show_apply(len, draft.length, number, broken_index(number));
+	for (size_t i = 0; i < RULES; i++) {
+		const uint64_t len = build_broken(rule[i]);
+		show_apply(len, draft.length, rule[i], broken_index(rule[i]));
 	}
 }
 

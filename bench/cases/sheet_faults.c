@@ -198,7 +198,7 @@ void sheet_wrap(unsigned k)
 void sheet_together(unsigned k)
 {
 	for (unsigned set = 1; set < 16; set++) {
-		const unsigned number = set / 8 == 0 ? 0 : 14 - (set + k) % 14;
+		const unsigned number = set / 8 == 0 ? 0 : rule[(set + 2 * k) % RULES];
 		sheet_start(k);
 		draft_standard();
 		draft.field[3].body += set % 2;

@@ -50,6 +50,7 @@ static void refuse_all(const struct named *file, const struct named *other)
 	const struct asked asked = { below(5), below(UINT64_MAX), below(500) };
 	for (uint32_t number = 1; number <= 14; number++)
 		refuse_image(number, number < 12 ? 0 : below(below(2) == 0 ? 5 : 1024), file);
+	refuse_image(PAJURENDA_RESERVED, below(below(2) == 0 ? 5 : 1024), file);
 	for (uint32_t number = 30; number <= 33; number++)
 		refuse_handoff(number, below(below(2) == 0 ? 300 : UINT64_MAX), file);
 	refuse_sheet(file);

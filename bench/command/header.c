@@ -16,10 +16,11 @@ static void check(int right, const char *what)
 	wrong++;
 }
 
-/* The names, 0 to 20. */
+/* The names, 0 to 22; 21 has none. */
 static const char *const names[] = {
 	"ACCEPTED", "LENGTH", "VOLUME", "FILE", "SECTION", "HEADER", "SIZE", "COMPONENT", "BASE", "TABLE", "CONFIG",
 	"UPD", "TYPE", "PLACE", "OVERLAP", "SHEET", "IDENTITY", "FIELD", "NEWBASE", "PAIR", "ROOM",
+	"unknown", "RESERVED",
 };
 
 /* The names of 30 to 33, and of the kinds of blocks. */
@@ -32,6 +33,7 @@ static void try_handoff(void)
 	uint8_t answer[PAJURENDA_HANDOFF_BYTES] = { 0 };
 	for (uint32_t i = 30; i <= 33; i++) {
 		check(strcmp(pajurenda_name(i), handoff_names[i - 30]) == 0, "a name");
+		check(!pajurenda_has_index(i), "an index of a block");
 		check(strlen(pajurenda_sentence(i)) > 10, "a sentence");
 		for (uint32_t j = 0; j < i; j++)
 			check(strcmp(pajurenda_sentence(i), pajurenda_sentence(j)) != 0, "two sentences alike");
@@ -54,18 +56,22 @@ static void try_handoff(void)
 /* Each number has its name and a sentence that no other has. */
 static void try_numbers(void)
 {
-	for (uint32_t i = 0; i <= 20; i++) {
+	for (uint32_t i = 0; i <= 22; i++) {
 		check(strcmp(pajurenda_name(i), names[i]) == 0, "a name");
+		check(pajurenda_has_index(i) == (i == 12 || i == 13 || i == 14 || i == 22), "an index");
+		if (i == 21)
+			continue;
 		check(strlen(pajurenda_sentence(i)) > 10, "a sentence");
 		for (uint32_t j = 0; j < i; j++)
 			check(strcmp(pajurenda_sentence(i), pajurenda_sentence(j)) != 0, "two sentences alike");
 	}
 	check(strcmp(pajurenda_name(PAJURENDA_SHORT), "SHORT") == 0, "the name of 100");
 	check(strcmp(pajurenda_sentence(PAJURENDA_SHORT), "unknown") != 0, "the sentence of 100");
-	static const uint32_t others[] = { 21, 22, 29, 34, 99, 101, 65536, 65537, 4294967295u };
+	static const uint32_t others[] = { 21, 23, 29, 34, 99, 101, 65536, 65537, 4294967295u };
 	for (size_t i = 0; i < sizeof others / sizeof others[0]; i++) {
 		check(strcmp(pajurenda_name(others[i]), "unknown") == 0, "a name of no answer");
 		check(strcmp(pajurenda_sentence(others[i]), "unknown") == 0, "a sentence of no answer");
+		check(!pajurenda_has_index(others[i]), "an index of no answer");
 	}
 }
 

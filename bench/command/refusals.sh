@@ -21,7 +21,7 @@ image() {
 	poked "$vendor" "$name" "$@"
 }
 
-# ---- an image's own, 1 to 14 ----
+# ---- an image's own, 1 to 14; 22 is in reserved.sh ----
 
 try_lengths() {
 	refuses 1 "$work/empty" 'an image has 72 to 16777216 bytes: the file has 0 bytes' read "$work/empty"
@@ -142,7 +142,7 @@ try_table() {
 	image b 180 '\377\377\377\377'
 	values 9 b 'mark "FSPP" at p 172, revision 1, n 4294967295, E 17179869364, the section ends at 200' read b
 	image b 175 'E\025\000\000\000'
-	values 9 b 'FSPE at 172 of length 21, mark FCFFFF8F at p 196, revision 61, n 4140936327, E 16563745516, the section ends at 200' read b
+	values 9 b 'FSPE at 172 of length 21, mark FCFFFFFF at p 196, revision 61, n 4140936327, E 16563745516, the section ends at 200' read b
 	image b 175 'E\377\377\377\377'
 	values 9 b 'FSPE at 172 of length 4294967295, mark past the file'"'"'s end at p 4294967468, the section ends at 200' read b
 }
@@ -166,15 +166,15 @@ try_region() {
 try_entries() {
 	image b 187 '\001'
 	refuses 12 b "a patch entry's type must be 0 or 15: entry 0 (counted from 0) is 0x01001192 and points to 4498, its type is 1" read b
-	image b 199 '\216'
-	values 12 b 'entry 3 (counted from 0) is 0x8EFFFFFC and points to 8188, its type is 14' read b
+	image b 199 '\376'
+	values 12 b 'entry 3 (counted from 0) is 0xFEFFFFFC and points to 8188, its type is 14' read b
 	image b 184 '\375\037'
 	rule='a patch word must lie inside the image'
 	refuses 13 b "$rule: entry 0 (counted from 0) is 0x00001FFD and points to 8189, the image has 8192 bytes" read b
-	image b 188 '\000\000\000\217'
-	values 13 b 'entry 1 (counted from 0) is 0x8F000000 and points to -16769024, the image has 8192 bytes' read b
+	image b 188 '\000\000\000\377'
+	values 13 b 'entry 1 (counted from 0) is 0xFF000000 and points to -16769024, the image has 8192 bytes' read b
 	image b 192 '\377\337\377'
-	values 13 b 'entry 2 (counted from 0) is 0x8FFFDFFF and points to -1, the image has 8192 bytes' read b
+	values 13 b 'entry 2 (counted from 0) is 0xFFFFDFFF and points to -1, the image has 8192 bytes' read b
 	clear='a patch word must be clear of tables, region and earlier words'
 	image b 184 '\307\000'
 	refuses 14 b "$clear: entry 0 (counted from 0) is 0x000000C7 and points to 199, E 200, c 4096, z 400" read b
@@ -182,12 +182,12 @@ try_entries() {
 	values 14 b 'entry 1 (counted from 0) is 0x0000118F and points to 4495, E 200, c 4096, z 400, nearest earlier entry 0 at 4498' read b
 	image b 196 '\211\023\000\000'
 	values 14 b 'entry 3 (counted from 0) is 0x00001389 and points to 5001, E 200, c 4096, z 400, nearest earlier entry 1 at 4998' read b
-	refuses 14 r "$clear: entry 2 (counted from 0) is 0x8FFFF195 and points to 4501, E 200, c 4096, z 400, nearest earlier entry 0 at 4498" read r
+	refuses 14 r "$clear: entry 2 (counted from 0) is 0xFFFFF195 and points to 4501, E 200, c 4096, z 400, nearest earlier entry 0 at 4498" read r
 }
 
 # each call that reads an image has the image's own refusal, with the entry
 try_own_in_calls() {
-	entry='entry 2 (counted from 0) is 0x8FFFF195 and points to 4501, E 200, c 4096, z 400, nearest earlier entry 0 at 4498'
+	entry='entry 2 (counted from 0) is 0xFFFFF195 and points to 4501, E 200, c 4096, z 400, nearest earlier entry 0 at 4498'
 	values 14 r "$entry" setting r 40 2
 	values 14 r "$entry" audit r s
 	values 14 r "$entry" audit r "$work/above"

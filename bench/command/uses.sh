@@ -34,8 +34,8 @@ try_read_words() {
 	same "$work/first" "$work/wanted_reading"
 	sed 1,11d "$work/out" >"$work/rest"
 	lines 'base word at 128 is 0xFFF80000' 'patch word 0 entry 0x00001192 at 4498 is 0xFFF80040' \
-		'patch word 1 entry 0x00001386 at 4998 is 0x12345678' 'patch word 2 entry 0x8FFFF771 at 6001 is 0xFFFFFFFC' \
-		'patch word 3 entry 0x8FFFFFFC at 8188 is 0xFFF81FF0'
+		'patch word 1 entry 0x00001386 at 4998 is 0x12345678' 'patch word 2 entry 0xFFFFF771 at 6001 is 0xFFFFFFFC' \
+		'patch word 3 entry 0xFFFFFFFC at 8188 is 0xFFF81FF0'
 	same "$work/rest" "$work/wanted"
 	poked "$vendor" "$i/none" 180 '\000'
 	works 0 read --words "$i/none"

@@ -14,7 +14,8 @@ help_is() {
 try_help() {
 	works 0 --help
 	cp "$work/out" "$work/help.all"
-	for word in read move apply setting audit handoff help --words --bytes --ranges --json --version 'Exit status' ' 20  ROOM' ' 33  KIND'; do
+	for word in read move apply setting audit handoff help --words --bytes --ranges --json --version 'Exit status' \
+		' 20  ROOM' ' 22  RESERVED' '1 to 12, 22, 13, 14' ' 33  KIND'; do
 		grep -qF -e "$word" "$work/out" || fail "the help does not speak of $word"
 		passed
 	done

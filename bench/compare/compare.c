@@ -46,7 +46,7 @@ enum edge { EMPTY, BELOW_LEAST, LEAST, BELOW_MOST, MOST, ABOVE_MOST, EDGES };
 
 static const uint64_t edge_length[EDGES] = { 0, 71, 72, TWO24 - 1, TWO24, TWO24 + 1 };
 
-/* What came: numbers by call; lengths, and those that got past refusal 14, by call and edge. */
+/* What came: numbers by call; lengths, and those that got past the reading, by call and edge. */
 static uint64_t seen[CALLS][101];
 static uint64_t at_edge[CALLS][EDGES], past_reading[CALLS][EDGES];
 static uint64_t long_images;
@@ -145,9 +145,20 @@ static void damage_entry(void)
 	const uint64_t at = plan.p + 12 + 4 * below(plan.n), place = drawn_place();
 	const uint64_t type = below(4) == 0 ? below(16) : below(2) * 15;
 	const uint64_t low = below(2) == 0 ? place % TWO24
-		: UINT64_C(0x80000000) | (TWO24 - plan.length + place) % TWO24;
+		: UINT64_C(0xF0000000) | (TWO24 - plan.length + place) % TWO24;
+	const uint64_t turned = below(6) == 0 ? below(8) << 28 : 0;
 	if (at + 4 <= length[IMAGE])
-		put_number(model[IMAGE], at, 4, below(8) << 28 | type << 24 | low);
+		put_number(model[IMAGE], at, 4, (low | type << 24) ^ turned);
+}
+
+/* Some of bits 31..24 of a few entries, which else stay right. */
+static void damage_top(void)
+{
+	for (uint64_t i = below(3); i < 3 && plan.n != 0; i++) {
+		const uint64_t at = plan.p + 15 + 4 * below(plan.n);
+		if (at < length[IMAGE])
+			model[IMAGE][at] ^= (uint8_t)(below(8) == 0 ? below(256) : below(8) << 4);
+	}
 }
 
 /* A component or a base word that is no legal one, or another legal one. */
@@ -189,8 +200,8 @@ static void damage_length(void)
 static void damage_image(void)
 {
 	static void (*const damage[])(void) = { damage_field, damage_edge, damage_edge,
-						damage_entry, damage_entry, damage_bytes,
-						damage_length, damage_kind };
+						damage_entry, damage_entry, damage_top,
+						damage_bytes, damage_length, damage_kind };
 	uint64_t count = below(2) == 0 ? 0 : 1 + below(2);
 	if (count == 0)
 		return;
@@ -537,6 +548,12 @@ static uint32_t call_model(enum call call)
 	return (uint32_t)fields[0];
 }
 
+/* Documents 01 and 02: the numbers that any call can have, accepted or refused by the reading. */
+static bool of_reading(int number)
+{
+	return number <= PAJURENDA_OVERLAP || number == PAJURENDA_RESERVED;
+}
+
 /* One drawn call on both sides; true where all is the same. */
 static bool compare_call(enum call call)
 {
@@ -555,7 +572,7 @@ static bool compare_call(enum call call)
 	for (int edge = 0; edge < EDGES; edge++)
 		if (length[IMAGE] == edge_length[edge] && wanted != PAJURENDA_SHORT) {
 			at_edge[call][edge]++;
-			past_reading[call][edge] += wanted == 0 || wanted > PAJURENDA_OVERLAP;
+			past_reading[call][edge] += wanted == 0 || !of_reading((int)wanted);
 		}
 	return same;
 }
@@ -565,7 +582,7 @@ static bool compare_call(enum call call)
 /* Document 01: the numbers that a call can have. */
 static bool can_be(enum call call, int number)
 {
-	if (number <= PAJURENDA_OVERLAP || number == PAJURENDA_SHORT)
+	if (of_reading(number) || number == PAJURENDA_SHORT)
 		return true;
 	switch (call) {
 	case MOVE: return number == PAJURENDA_NEWBASE;

@@ -160,10 +160,10 @@ static void lay_entries(struct plan *plan)
 		plan->place[k - 1] = kept;
 	}
 	for (uint64_t k = 0; k < plan->n; k++) {
-		const uint64_t bits = below(8) << 28 | below(2) * 15 << 24;
+		const uint64_t type = below(2) * 15 << 24;
 		const uint64_t back = TWO24 - plan->length + plan->place[k];
-		plan->entry[k] = (uint32_t)(bits | (below(2) == 0 ? plan->place[k]
-						    : UINT64_C(0x80000000) | back));
+		plan->entry[k] = (uint32_t)(type | (below(2) == 0 ? plan->place[k]
+						    : UINT64_C(0xF0000000) | back));
 	}
 }
 

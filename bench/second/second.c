@@ -273,6 +273,19 @@ static bool refuse_type(struct letters *w)
 	return false;
 }
 
+/* Refusal 22, #104: bits 30..28 repeat bit 31. */
+static bool refuse_reserved(struct letters *w)
+{
+	for (uint64_t i = 0; i < w->n; i++) {
+		const uint64_t top = entry_at(w, i) / UINT64_C(268435456);
+		if (top != 0 && top != 15) {
+			w->index = i;
+			return true;
+		}
+	}
+	return false;
+}
+
 /* Refusal 13: below 0, or four bytes do not fit. */
 static bool refuse_place(struct letters *w)
 {
@@ -354,19 +367,22 @@ static struct second_reading accepted(const struct letters *w)
 	};
 }
 
-/* The table's order: a check is made only if all earlier ones passed; 0 where accepted. */
+/* The table's order, with 22 after 12: a check is made only if all earlier ones passed; 0 where accepted. */
 static uint64_t judge(struct letters *w)
 {
-	static bool (*const refusal[14])(struct letters *) = {
-		refuse_length, refuse_volume, refuse_file, refuse_section,
-		refuse_header, refuse_size, refuse_component, refuse_base,
-		refuse_table, refuse_config, refuse_upd, refuse_type,
-		refuse_place, refuse_overlap,
+	static const struct {
+		uint64_t number;
+		bool (*refuse)(struct letters *);
+	} check[] = {
+		{ 1, refuse_length }, { 2, refuse_volume }, { 3, refuse_file }, { 4, refuse_section },
+		{ 5, refuse_header }, { 6, refuse_size }, { 7, refuse_component }, { 8, refuse_base },
+		{ 9, refuse_table }, { 10, refuse_config }, { 11, refuse_upd }, { 12, refuse_type },
+		{ 22, refuse_reserved }, { 13, refuse_place }, { 14, refuse_overlap },
 	};
 
-	for (size_t i = 0; i < 14; i++)
-		if (refusal[i](w))
-			return i + 1;
+	for (size_t i = 0; i < sizeof check / sizeof check[0]; i++)
+		if (check[i].refuse(w))
+			return check[i].number;
 	return 0;
 }
 
@@ -406,7 +422,7 @@ static void move_words(const struct letters *w, uint8_t *image, uint64_t by)
 	}
 }
 
-/* "Moving": refusals 1..14, then 18. */
+/* "Moving": the image's refusals, then 18. */
 struct second_moved second_move(uint8_t *image, uint64_t length, uint64_t new_base)
 {
 	struct letters w = { .image = image, .length = length };
@@ -528,7 +544,7 @@ struct second_applied second_apply(uint8_t *image, uint64_t length,
 	return (struct second_applied){ .number = 0 };
 }
 
-/* "One setting": refusals 1..14, then 17; the end is a whole number that is never cut down. */
+/* "One setting": the image's refusals, then 17; the end is a whole number that is never cut down. */
 struct second_part second_setting(const uint8_t *image, uint64_t length,
 				  uint64_t offset, uint64_t size)
 {
@@ -613,7 +629,7 @@ static struct second_audited compare(const struct letters *w, const uint8_t *shi
 	return a;
 }
 
-/* "The audit": refusals 1..14, 19, 18, then 20, which keeps base and counts. */
+/* "The audit": the vendor image's refusals, 19, 18, then 20, which keeps base and counts. */
 struct second_audited second_audit(const uint8_t *vendor, uint64_t vendor_length,
 				   const uint8_t *shipped, uint64_t shipped_length,
 				   uint32_t *places, uint64_t places_count)

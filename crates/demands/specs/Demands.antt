@@ -35,7 +35,7 @@ use Rattle.demands.specs.Makes.{Makes, explains-made}
 use Rattle.demands.specs.Explained.{explained-shows, ascending, differs-at, all-listed, told-always, told-counts, place-is, place-kept, too-short, turned}
 
 -- ---- demand 1: any bytes and any numbers are answered; the number is one that the document gives the call, an index other than 0 names an
--- entry of the table and comes with 12 to 14, and a refused call leaves every lent byte as it was
+-- entry of the table and comes with 12 to 14 or 22, and a refused call leaves every lent byte as it was
 
 abbrev pub Demand1 : Type 0
 Demand1 =

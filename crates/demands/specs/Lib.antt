@@ -6,3 +6,4 @@ pub mod Sheets
 pub mod Makes
 pub mod Demands
 pub mod Met
+pub mod Reserved

@@ -122,8 +122,13 @@ module _ (a b : List ℕ) (long : length a ≡ length b) where
         (
           refl,
           refl,
-          unrefused-cong a b t n long table 13,
-          (refl, refl, clear-cong a b t n long table (t + 4 * n) c z, rw (comp, image, revision, extended)),
+          unrefused-cong a b t n long table 22,
+          (
+            refl,
+            refl,
+            unrefused-cong a b t n long table 13,
+            (refl, refl, clear-cong a b t n long table (t + 4 * n) c z, rw (comp, image, revision, extended)),
+          ),
         ),
       )
 

@@ -49,7 +49,7 @@ module _ (a b : List ℕ) (r : Reading) (least : ℕ) (same : Framed a b r least
 
   patch : (H p end : ℕ) → H + least ≤ p → Passed (fromPatch a H p end) r → (r .H ≡ H) × (p + 12 ≤ r .E) × AlikePatch a b H p end
   unfolding fromPatch fromRegion fromEntries accepted
-  patch H p end far (fits, (region, (marks, (types, (places, (clears, e)))))) =
+  patch H p end far (fits, (region, (marks, (types, (reserved, (places, (clears, e))))))) =
       let n = le 4 a (p + 8) in
       let at : r .H ≡ H = ap (λ (s : Reading). s .H) e in
       let end : r .E ≡ p + 12 + 4 * n = ap (λ (s : Reading). s .E) e in
@@ -93,8 +93,9 @@ module _ (a b : List ℕ) (r : Reading) (least : ℕ) (same : Framed a b r least
   -- the header stands where the reading says
   at-table : (H p end : ℕ) → Passed (fromTable a H p end) r → r .H ≡ H
   unfolding fromTable fromPatch fromRegion fromEntries accepted
-  at-table H p end (inl (there, (ext, (fits, (region, (marks, (types, (places, (clears, e))))))))) = ap (λ (s : Reading). s .H) e
-  at-table H p end (inr (none, (fits, (region, (marks, (types, (places, (clears, e)))))))) = ap (λ (s : Reading). s .H) e
+  at-table H p end (inl (there, (ext, (fits, (region, (marks, (types, (reserved, (places, (clears, e)))))))))) =
+      ap (λ (s : Reading). s .H) e
+  at-table H p end (inr (none, (fits, (region, (marks, (types, (reserved, (places, (clears, e))))))))) = ap (λ (s : Reading). s .H) e
 
   header : (f size : ℕ) → Passed (fromHeader a f size) r → (r .H ≡ f + 28) × (f + 112 ≤ r .E) × AlikeHeader a b f size
   unfolding fromHeader fromComponent

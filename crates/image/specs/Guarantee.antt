@@ -51,10 +51,11 @@ module _ (xs : List ℕ) (r : Reading) (fits : Holds (lengthFits xs)) where
   from-patch : (H p end : ℕ) → end ≤ length xs → H + 72 ≤ p → Holds (componentFits (component xs H))
       → Holds (legalBase (length xs) (le 4 xs (H + 28))) → Passed (fromPatch xs H p end) r → Guaranteed xs r
   unfolding fromPatch fromRegion fromEntries accepted
-  from-patch H p end inside below comp legal (patch, (region, (marks, (types, (places, (clears, e)))))) =
+  from-patch H p end inside below comp legal (patch, (region, (marks, (types, (reserved, (places, (clears, e))))))) =
       let n = le 4 xs (p + 8) in
       let t = start (p + 12) n in
-      let zero : (i : ℕ) → i < n → place xs (p + 12) i .number ≡ 0 = λ i h. place-placed xs (p + 12) i .numbers (types i h) (places i h) in
+      let zero : (i : ℕ) → i < n → place xs (p + 12) i .number ≡ 0 =
+      λ i h. place-placed xs (p + 12) i .numbers (types i h) (reserved i h) (places i h) in
       rw e (record {
         length-least = omega arith;
         length-most = omega arith;

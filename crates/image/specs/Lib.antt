@@ -5,4 +5,5 @@ pub mod Guarantee
 pub mod Frame
 pub mod FrameBelow
 pub mod Small
+pub mod Damaged
 pub mod Numbers

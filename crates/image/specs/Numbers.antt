@@ -16,10 +16,19 @@ use Rattle.image.specs.declared.Reading.{Reading}
 use Rattle.image.specs.Reading.{refusal, accepted, p, n, rules, reading}
 use Rattle.image.specs.After.{afterReading, after-accepted, after-refused}
 
--- what a call on xs may answer: 0, a refusal of the reading or one of its own, and an index that is 0, or with 12 to 14 that of an entry
+-- the numbers of a reading
+abbrev pub Known : ℕ → Type 0
+Known k = (k ≤ 14) ⊎ (k ≡ 22)
+
+-- those that name an entry
+abbrev pub OfEntry : ℕ → Type 0
+OfEntry k = ((12 ≤ k) × (k ≤ 14)) ⊎ (k ≡ 22)
+
+-- what a call on xs may answer: 0, a refusal of the reading or one of its own, and an index that is 0, or with 12 to 14 and 22 that of an
+-- entry
 pub record Numbered (xs : List ℕ) (own : ℕ → Type 0) (number index : ℕ) : Type 0 where
-  pub known : (number ≤ 14) ⊎ own number
-  pub entry : (index ≡ 0) ⊎ ((12 ≤ number) × (number ≤ 14) × (index < n xs))
+  pub known : Known number ⊎ own number
+  pub entry : (index ≡ 0) ⊎ (OfEntry number × (index < n xs))
 
 -- a reading has none of its own
 abbrev pub None : ℕ → Type 0
@@ -27,10 +36,10 @@ None k = ⊥
 
 module _ (xs : List ℕ) where
   whole : (k : ℕ) → k ≤ 14 → Numbered xs None k 0
-  whole k h = record { known = inl h; entry = inl refl }
+  whole k h = record { known = inl (inl h); entry = inl refl }
 
-  at-entry : (k : ℕ) → 12 ≤ k → k ≤ 14 → (i : ℕ) → i < n xs → Numbered xs None k i
-  at-entry k l h i e = record { known = inl h; entry = inr (l, h, e) }
+  at-entry : (k : ℕ) → OfEntry k → (i : ℕ) → i < n xs → Numbered xs None k i
+  at-entry k h i e = record { known = inl (elim h [ inl l ↦ inl (l .1) | inr l ↦ inr l ]); entry = inr (h, e) }
 
   pub numbered : Numbered xs None (reading xs .number) (reading xs .index)
   unfolding reading rules accepted
@@ -62,8 +71,11 @@ module _ (xs : List ℕ) where
                               λ g. (
                                 (λ b. whole 11 (omega arith)),
                                 λ g. (
-                                  at-entry 12 (omega arith) (omega arith),
-                                  (at-entry 13 (omega arith) (omega arith), (at-entry 14 (omega arith) (omega arith), whole 0 (omega arith))),
+                                  at-entry 12 (inl (omega arith)),
+                                  (
+                                    at-entry 22 (inr refl),
+                                    (at-entry 13 (inl (omega arith)), (at-entry 14 (inl (omega arith)), whole 0 (omega arith))),
+                                  ),
                                 ),
                               ),
                             ),
@@ -107,8 +119,10 @@ module _ (xs : List ℕ) where
                             (λ b h. refl),
                             λ g. (
                               (λ b h. refl),
-                              λ g.
-                                  ((λ b h. refl), λ g. ((λ i l h. refl), ((λ i l h. refl), ((λ i l h. refl), (λ h. absurd (h refl)))))),
+                              λ g. (
+                                (λ b h. refl),
+                                λ g. ((λ i l h. refl), ((λ i l h. refl), ((λ i l h. refl), ((λ i l h. refl), (λ h. absurd (h refl)))))),
+                              ),
                             ),
                           ),
                         ),
@@ -163,7 +177,10 @@ module _ (xs : List ℕ) where
                                 (λ b. other 11 (omega arith)),
                                 λ g. (
                                   λ i l. other 12 (omega arith),
-                                  (λ i l. other 13 (omega arith), (λ i l. other 14 (omega arith), λ e. omega arith)),
+                                  (
+                                    λ i l. other 22 (omega arith),
+                                    (λ i l. other 13 (omega arith), (λ i l. other 14 (omega arith), λ e. omega arith)),
+                                  ),
                                 ),
                               ),
                             ),
@@ -206,9 +223,9 @@ pub own-number : (xs : List ℕ) (own : ℕ → Type 0) (k : ℕ) → own k → 
 own-number xs own k h = record { known = inr h; entry = inl refl }
 
 pub own-zero : (xs : List ℕ) (own : ℕ → Type 0) → Numbered xs own 0 0
-own-zero xs own = record { known = inl (omega arith); entry = inl refl }
+own-zero xs own = record { known = inl (inl (omega arith)); entry = inl refl }
 
 -- an index is a number of 32 bits
 pub index-small : (xs : List ℕ) (own : ℕ → Type 0) (number index : ℕ) → Bytes xs → Numbered xs own number index → index < 2 ^ 32
 index-small xs own number index b h =
-    elim (h .entry) [ inl e ↦ omega arith | inr (l, m, e) ↦ omega (arith, le-lt 4 xs (p xs + 8) b) ]
+    elim (h .entry) [ inl e ↦ omega arith | inr (k, e) ↦ omega (arith, le-lt 4 xs (p xs + 8) b) ]

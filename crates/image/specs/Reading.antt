@@ -1,6 +1,6 @@
--- Document 01, "Reading an image": what a reading gives, the document's letters, and its rules from 1 to 14. The checks themselves stand
--- in the crates of the layers: `Volume` (1 to 4), `Header` and `Base` (5 to 8), `Table` (9), `Region` (10, 11), `Entry` and `Passes` (12
--- to 14).
+-- Document 01, "Reading an image": what a reading gives, the document's letters, and its rules from 1 to 14, document 02's 22 among them.
+-- The checks themselves stand in the crates of the layers: `Volume` (1 to 4), `Header` and `Base` (5 to 8), `Table` (9), `Region` (10, 11),
+-- `Entry` and `Passes` (12 to 14, 22).
 -- Assumes nothing.
 use Prim.Native.Nat.{ℕ, _+_, _-_, _*_}
 use mathlib.Core.Bool.{cond}
@@ -159,9 +159,10 @@ module _ (xs : List ℕ) where
       (rule 10 (regionFits xs E c z)
       (rule 11 (marksFit xs c (component xs H))
       (pass 12 (unrefused 12 xs t) n
+      (pass 22 (unrefused 22 xs t) n
       (pass 13 (unrefused 13 xs t) n
       (pass 14 (clear xs t E c z) n
-      (answer (accepted xs H t n c z)))))))))))))))))
+      (answer (accepted xs H t n c z))))))))))))))))))
 
   -- the reading
   unfoldable pub reading : Reading

@@ -19,11 +19,12 @@ use Rattle.image.specs.declared.Reading.{Reading}
 use Rattle.image.specs.Reading as the
 use Rattle.image.specs.Reading.{refusal, accepted, rules, reading}
 
--- 12, 13, 14
+-- 12, 22, 13, 14
 unfoldable pub fromEntries : List ℕ → ℕ → ℕ → ℕ → ℕ → ℕ → Rules Reading
 fromEntries xs H t n c z =
     pass 12 (unrefused 12 xs t) n
-    (pass 13 (unrefused 13 xs t) n (pass 14 (clear xs t (t + 4 * n) c z) n (answer (accepted xs H t n c z))))
+    (pass 22 (unrefused 22 xs t) n
+    (pass 13 (unrefused 13 xs t) n (pass 14 (clear xs t (t + 4 * n) c z) n (answer (accepted xs H t n c z)))))
 
 -- 10, 11
 unfoldable pub fromRegion : List ℕ → ℕ → ℕ → ℕ → Rules Reading

@@ -1,4 +1,4 @@
-// Document 01, "Reading an image": the rules 1 to 14 in their order, each stage a check or two and then the next stage.
+// Document 01, "Reading an image": the rules 1 to 14 in their order, 22 after 12 (document 02), each stage a check or two and then the next stage.
 ghost use mathlib.Core.Path.{_≡_};
 ghost use Prim.Native.Nat.{_+_, _*_, _≤_, _<_};
 ghost use lib.ListN.{length};
@@ -81,7 +81,7 @@ fn accept(image: &[u8], H: usize, t: usize, n: usize, c: usize, z: usize) -> Rea
     }
 }
 
-// 12, 13 and 14, one pass over all entries after the other.
+// 12, 22, 13 and 14, one pass over all entries after the other.
 fn from_entries(image: &[u8], H: usize, t: usize, n: usize, c: usize, z: usize) -> Reading
     requires { ⌜ (H + 80 ≤ length (now image)) × (t + 4 * n ≤ length (now image)) × (c + z ≤ length (now image)) ⌝ }
     ensures { λ r. ⌜ r ≡ run refusal (fromEntries (now (image .entry)) H t n c z) ⌝ }
@@ -90,9 +90,13 @@ fn from_entries(image: &[u8], H: usize, t: usize, n: usize, c: usize, z: usize) 
     if a < n {
         return refused(12, a);
     }
-    let b = table::first_refused(image, t, n, 13);
+    let b = table::first_refused(image, t, n, 22);
     if b < n {
-        return refused(13, b);
+        return refused(22, b);
+    }
+    let d = table::first_refused(image, t, n, 13);
+    if d < n {
+        return refused(13, d);
     }
     let o = table::first_overlap(image, t, n, c, z);
     if o < n {

@@ -54,7 +54,8 @@ small-at (x ∷ l) (h, t) (suc j) = small-at l t j
 -- a number of a call, and an index
 number-small : (xs : List ℕ) (own : ℕ → Type 0) (number index : ℕ) → ((k : ℕ) → own k → k ≤ 20) → Numbered xs own number index
     → number < 2 ^ 64
-number-small xs own number index most h = elim (h .known) [ inl l ↦ omega arith | inr o ↦ omega (arith, most number o) ]
+number-small xs own number index most h =
+    elim (h .known) [ inl (inl l) ↦ omega arith | inl (inr l) ↦ omega arith | inr o ↦ omega (arith, most number o) ]
 
 -- ---- a reading
 

@@ -16,7 +16,7 @@ use Rattle.words.specs.Le.{le, Bytes}
 use Rattle.words.specs.Put.{digit}
 use Rattle.words.specs.Number.{number}
 use Rattle.header.specs.Base.{legalBase}
-use Rattle.table.specs.Entry.{placeOf}
+use Rattle.table.specs.Entry.{refusedPlace, placeOf}
 use Rattle.image.specs.declared.Identity.{Identity}
 use Rattle.image.specs.Reading.{rebased, refusal, reading}
 use Rattle.image.specs.Guarantee.{guaranteed}
@@ -192,7 +192,8 @@ rows =
     ∷ refuses 524288 0xFFFFFFFD 13
     ∷ points 524288 0x0007FFFC 524284
     ∷ refuses 524288 0x00F80000 13
-    ∷ refuses 524288 0x8F000000 13
+    ∷ refuses 524288 0x8F000000 22
+    ∷ refuses 524288 0xF0000000 13
     ∷ refuses 524288 0x01000010 12
     ∷ legal 524288 0xFFF80000
     ∷ illegal 524288 0xFFF81000
@@ -210,6 +211,11 @@ rows =
 pub samples : Each rows
 unfolding test allBelow placeOf difference le bodyAt
 samples = all-right rows refl
+
+-- an entry that is 2^24 back from the end has its place before the start of any shorter image
+pub far-back : (size : ℕ) → size < 2 ^ 24 → placeOf size 0xF0000000 ≡ refusedPlace 13
+unfolding placeOf test
+far-back size h = rw (fails (2 ^ 24 ≤? size) (λ k. omega arith))
 
 -- the sheet of the rows is the one that the small image takes
 pub same-sheet : sheet ≡ sample

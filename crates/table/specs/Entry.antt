@@ -1,6 +1,6 @@
--- Document 01, "Where an entry points": rules 12 and 13 for one entry. Bits 30..28 aren't looked at.
+-- Document 01, "Where an entry points", with document 02's #104: rules 12, 22 and 13 for one entry, in that order.
 -- Assumes nothing.
-use Prim.Native.Nat.{ℕ, _+_, _-_, _/_, _%_, _^_}
+use Prim.Native.Nat.{ℕ, _+_, _-_, _*_, _/_, _%_, _^_}
 use mathlib.Core.Bool.{cond}
 use mathlib.Core.Path.{_≡_, sym, _∙_}
 use lib.Dec.{eqb}
@@ -18,6 +18,10 @@ placeStage k p rest = cond (test p) rest (refusedPlace k)
 abbrev pub typeFits : ℕ → Fact
 typeFits w = let kind = w / 2 ^ 24 % 16 in kind ≡? 0 or kind ≡? 15
 
+-- 22 RESERVED: bits 30..28 are all clear where bit 31 is clear, and all set where it is set
+abbrev pub reservedFits : ℕ → Fact
+reservedFits w = w / 2 ^ 28 % 8 ≡? 7 * (w / 2 ^ 31 % 2)
+
 -- 13 PLACE: the word lies in the image, whole
 abbrev pub fitted : ℕ → ℕ → Place
 fitted size at = placeStage 13 (at + 4 ≤? size) (record { number = 0; at = at })
@@ -28,8 +32,9 @@ unfoldable pub placeOf : ℕ → ℕ → Place
 placeOf size w =
     let low = w % 2 ^ 24 in
     placeStage 12 (typeFits w)
+    (placeStage 22 (reservedFits w)
     (cond (eqb (w / 2 ^ 31 % 2) 0) (fitted size low)
-    (placeStage 13 (2 ^ 24 - low ≤? size) (fitted size (size - (2 ^ 24 - low)))))
+    (placeStage 13 (2 ^ 24 - low ≤? size) (fitted size (size - (2 ^ 24 - low))))))
 
 -- the promise of `point`
 abbrev pub Points : ℕ → ℕ → Place → Type 0

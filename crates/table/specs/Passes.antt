@@ -1,4 +1,4 @@
--- Document 01, rules 12 to 14 over all entries: what the entry i of the table at t must pass.
+-- Documents 01 and 02, rules 12, 22, 13 and 14 over all entries: what the entry i of the table at t must pass.
 -- Assumes nothing.
 use Prim.Native.Nat.{ℕ, _+_, _*_}
 use mathlib.Core.List.{List}
@@ -12,7 +12,7 @@ use Rattle.table.specs.Entry.{placeOf}
 unfoldable pub place : List ℕ → ℕ → ℕ → Place
 place xs t i = placeOf (length xs) (le 4 xs (t + 4 * i))
 
--- 12 TYPE, 13 PLACE: it isn't refused with this number
+-- 12 TYPE, 22 RESERVED, 13 PLACE: it isn't refused with this number
 abbrev pub unrefused : ℕ → List ℕ → ℕ → ℕ → Fact
 unrefused number xs t i = deny (place xs t i .number ≡? number)
 

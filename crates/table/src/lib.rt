@@ -1,11 +1,11 @@
-// Rules 9 and 12 to 14 of document 01: the patch table, where an entry points, and the scans over the entries.
+// Rules 9 and 12 to 14 of document 01, and 22 of document 02: the patch table, where an entry points, and the scans over the entries.
 ghost use mathlib.Core.Path.{_≡_};
 ghost use Prim.Native.Nat.{ℕ, _+_, _*_, _≤_, _<_};
 ghost use lib.ListN.{length};
 ghost use Rattle.facts.specs.Fact.{Tells};
 ghost use Rattle.facts.specs.First.{firstFault};
 ghost use Rattle.table.specs.Table.{round4, extended, extendedFits, patchFits};
-ghost use Rattle.table.specs.Entry.{typeFits, refusedPlace, fitted, placeOf, Points};
+ghost use Rattle.table.specs.Entry.{typeFits, reservedFits, refusedPlace, fitted, placeOf, Points};
 ghost use Rattle.table.specs.Passes.{place, unrefused, outside, apart, clear};
 
 // n rounded up to a multiple of 4.
@@ -98,6 +98,16 @@ fn type_fits(entry: usize) -> bool
     false
 }
 
+// Rule 22.
+fn reserved_fits(entry: usize) -> bool
+    ensures { λ r. ⌜ Tells r (reservedFits entry) ⌝ }
+{
+    if entry / 268435456 % 8 != 7 * (entry / 2147483648 % 2) {
+        return false;
+    }
+    true
+}
+
 // Four bytes must fit.
 fn fit(at: usize, size: usize) -> Place
     ensures { λ r. ⌜ r ≡ fitted size at ⌝ }
@@ -111,12 +121,15 @@ fn fit(at: usize, size: usize) -> Place
     Place { number: 0, at }
 }
 
-// Where an entry points in an image of `size` bytes; refusals 12 and 13 are said here and nowhere else.
+// Where an entry points in an image of `size` bytes; refusals 12, 22 and 13 are said here and nowhere else.
 pub fn point(entry: usize, size: usize) -> Place
     ensures { λ r. ⌜ Points entry size r ⌝ }
 {
     if !type_fits(entry) {
         return refused_place(12);
+    }
+    if !reserved_fits(entry) {
+        return refused_place(22);
     }
     let low = entry % 16777216;
     if entry / 2147483648 % 2 == 0 {
@@ -204,7 +217,7 @@ fn is_apart(a: usize, b: usize) -> bool
     false
 }
 
-// Rule 14, where 12 and 13 are passed: the first of n entries whose word isn't clear, or n.
+// Rule 14, where 12, 22 and 13 are passed: the first of n entries whose word isn't clear, or n.
 pub fn first_overlap(image: &[u8], t: usize, n: usize, c: usize, z: usize) -> usize
     requires { ⌜ (t + 4 * n ≤ length (now image)) × (c + z ≤ length (now image)) × ((i : ℕ) → i < n → place (now image) t i .number ≡ 0) ⌝ }
     ensures { λ r. ⌜ r ≡ firstFault (clear (now (image .entry)) t (t + 4 * n) c z) n ⌝ }

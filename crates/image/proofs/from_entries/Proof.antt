@@ -37,19 +37,8 @@ returns-2 c =
       lt-ltb _ _ (c .before .if2 .taken),
     ) (c .refused2 .ensures)
 
-first-overlap-requires : tie.Need-first-overlap-requires
-first-overlap-requires c κs =
-    let past = c .before .before in
-    let start = past .before .before .before in
-    let a = start .args in
-    let xs = a .image .now in (
-      start .pre .1,
-      start .pre .2,
-      λ i h.
-          place-placed xs (a .t) i .numbers
-          (first (unrefused 12 xs (a .t)) (a .n) .clear i (omega (arith, past .before .first-refused .ensures, past .if1 .left)))
-          (first (unrefused 13 xs (a .t)) (a .n) .clear i (omega (arith, c .before .first-refused2 .ensures, c .if2 .left))),
-    )
+first-refused-requires-3 : tie.Need-first-refused-requires-3
+first-refused-requires-3 c κs = search needs
 
 refused-requires-3 : tie.Need-refused-requires-3
 refused-requires-3 c κs = search needs
@@ -64,25 +53,64 @@ returns-3 c =
       le-ltb _ _ (past .if1 .left),
       ← past2 .before .first-refused2 .ensures,
       le-ltb _ _ (past2 .if2 .left),
-      ← c .before .before .first-overlap .ensures,
+      ← c .before .before .first-refused3 .ensures,
       lt-ltb _ _ (c .before .if3 .taken),
     ) (c .refused3 .ensures)
 
-accept-requires : tie.Need-accept-requires
-accept-requires c κs = search needs
+first-overlap-requires : tie.Need-first-overlap-requires
+first-overlap-requires c κs =
+    let past2 = c .before .before in
+    let past = past2 .before .before in
+    let start = past .before .before .before in
+    let a = start .args in
+    let xs = a .image .now in (
+      start .pre .1,
+      start .pre .2,
+      λ i h.
+          place-placed xs (a .t) i .numbers
+          (first (unrefused 12 xs (a .t)) (a .n) .clear i (omega (arith, past .before .first-refused .ensures, past .if1 .left)))
+          (first (unrefused 22 xs (a .t)) (a .n) .clear i (omega (arith, past2 .before .first-refused2 .ensures, past2 .if2 .left)))
+          (first (unrefused 13 xs (a .t)) (a .n) .clear i (omega (arith, c .before .first-refused3 .ensures, c .if3 .left))),
+    )
+
+refused-requires-4 : tie.Need-refused-requires-4
+refused-requires-4 c κs = search needs
 
 returns-4 : tie.Need-returns-4
 unfolding run fromEntries
 returns-4 c =
-    let past2 = c .before .before .before in
+    let past3 = c .before .before .before in
+    let past2 = past3 .before .before in
     let past = past2 .before .before in
     rw (
       ← past .before .first-refused .ensures,
       le-ltb _ _ (past .if1 .left),
       ← past2 .before .first-refused2 .ensures,
       le-ltb _ _ (past2 .if2 .left),
+      ← past3 .before .first-refused3 .ensures,
+      le-ltb _ _ (past3 .if3 .left),
       ← c .before .before .first-overlap .ensures,
-      le-ltb _ _ (c .before .if3 .left),
+      lt-ltb _ _ (c .before .if4 .taken),
+    ) (c .refused4 .ensures)
+
+accept-requires : tie.Need-accept-requires
+accept-requires c κs = search needs
+
+returns-5 : tie.Need-returns-5
+unfolding run fromEntries
+returns-5 c =
+    let past3 = c .before .before .before in
+    let past2 = past3 .before .before in
+    let past = past2 .before .before in
+    rw (
+      ← past .before .first-refused .ensures,
+      le-ltb _ _ (past .if1 .left),
+      ← past2 .before .first-refused2 .ensures,
+      le-ltb _ _ (past2 .if2 .left),
+      ← past3 .before .first-refused3 .ensures,
+      le-ltb _ _ (past3 .if3 .left),
+      ← c .before .before .first-overlap .ensures,
+      le-ltb _ _ (c .before .if4 .left),
     ) (c .accept .ensures)
 
 pub from-entries-spec : {M : Type 1} → statement M
@@ -95,8 +123,11 @@ from-entries-spec =
     first-refused-requires-2
     refused-requires-2
     returns-2
-    first-overlap-requires
+    first-refused-requires-3
     refused-requires-3
     returns-3
+    first-overlap-requires
+    refused-requires-4
+    returns-4
     accept-requires
-    returns-4)
+    returns-5)
