@@ -10,6 +10,7 @@
 #include "pajurenda.h"
 #include "ranges.h"
 #include "refusals.h"
+#include "sheets.h"
 
 #define FIRST_PLACES ((size_t)256)
 
@@ -57,7 +58,6 @@ static void show_bytes(const struct audit *audit)
 /* The differences as the options want them. */
 static enum status show_differences(struct audit *audit, uint64_t base)
 {
-	uint8_t moved[PAJURENDA_MOVE_BYTES] = { 0 };
 	const struct bytes *vendor = &audit->vendor.bytes;
 	if ((audit->options & RANGES) != 0)
 		return show_ranges(vendor, audit->places, differences(audit));
@@ -65,8 +65,7 @@ static enum status show_differences(struct audit *audit, uint64_t base)
 		show_list(audit);
 		return FINE;
 	}
-	if (pajurenda_move(vendor->at, vendor->length, base, moved, sizeof moved) !=
-	    PAJURENDA_ACCEPTED)
+	if (!move_alone(&audit->vendor.bytes, base))
 		return fail_answer();
 	show_bytes(audit);
 	return FINE;

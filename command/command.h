@@ -17,10 +17,10 @@ struct bytes {
 	size_t length;
 };
 
-/* A subcommand: the words and options it takes, and what it says of itself. */
+/* A subcommand, of one word or two: the words and options it takes, and what it says of itself. */
 struct command {
 	const char *name;
-	const char *words[4]; /* the words' names, up to a NULL */
+	const char *words[5]; /* the words' names, up to a NULL; one in brackets may be missing */
 	unsigned options;
 	enum status (*run)(char **word, unsigned options);
 	const char *usage;
@@ -29,8 +29,10 @@ struct command {
 };
 
 enum status do_read(char **word, unsigned options);
-enum status do_move(char **word, unsigned options);
-enum status do_apply(char **word, unsigned options);
+enum status do_release(char **word, unsigned options);
+enum status do_sheet_empty(char **word, unsigned options);
+enum status do_sheet_make(char **word, unsigned options);
+enum status do_sheet_show(char **word, unsigned options);
 enum status do_setting(char **word, unsigned options);
 enum status do_audit(char **word, unsigned options);
 enum status do_handoff(char **word, unsigned options);

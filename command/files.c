@@ -84,7 +84,25 @@ bool load(const char *name, struct bytes *file)
 	return load_until(name, file, MOST_READ, NULL);
 }
 
+/* The same bytes in memory of their own; false where there is none. */
+bool copy_bytes(const struct bytes *from, struct bytes *to)
+{
+	*to = (struct bytes){ .at = malloc(from->length + 1), .length = from->length };
+	if (to->at == NULL)
+		return false;
+	memcpy(to->at, from->at, from->length);
+	return true;
+}
+
 /* ---- output ---- */
+
+/* Both names are those of one file, under whatever name: writing the one would lose the other. */
+bool is_same_file(const char *one, const char *other)
+{
+	struct stat first, second;
+	return stat(one, &first) == 0 && stat(other, &second) == 0 &&
+	       first.st_dev == second.st_dev && first.st_ino == second.st_ino;
+}
 
 /* The mode of a new file. */
 static mode_t new_mode(void)

@@ -1,6 +1,7 @@
 /* The subcommands and what the command says of itself. */
 #include "help.h"
 
+#include <stdbool.h>
 #include <stdio.h>
 #include <string.h>
 
@@ -27,18 +28,44 @@ static const char read_help[] =
 	"--words  also lists the words that a move changes: the base word, then each patch word\n"
 	"         with its entry's index and value, its position and what stands there.\n";
 
-static const char move_help[] =
-	"Writes to OUT the image IMAGE moved to BASE, and shows the base and by how much the\n"
-	"image moved. A base is a multiple of 4096, base plus length at most 2^32.\n"
+static const char release_help[] =
+	"Writes to OUT the image IMAGE with the settings of the release sheet SHEET, moved to BASE,\n"
+	"in one step: OUT has both or is as it was. Shows the base, by how much the image moved, and\n"
+	"how many entries the sheet has. The sheet must be for IMAGE's identity, revision and\n"
+	"extended number, as `read` shows them; all of it, and the base, is judged before a byte is\n"
+	"changed. A sheet has the extended number in its bytes 14 and 15, the low byte first. An\n"
+	"older sheet has 0 there: it is for images whose extended number is 0.\n"
 	"\n"
-	"BASE is hex as 0x00512000, as every base is shown, or decimal without a leading 0.\n";
+	"BASE is hex as 0x00512000, as every base is shown, or decimal without a leading 0: a\n"
+	"multiple of 4096, base plus length at most 2^32. `keep` is the base that IMAGE is at, so\n"
+	"that the release only sets. With the sheet of `sheet empty` it only moves.\n";
 
-static const char apply_help[] =
-	"Writes to OUT the image IMAGE with the settings of the release sheet SHEET. The sheet\n"
-	"must be for IMAGE's identity, revision and extended number, as `read` shows them; all of\n"
-	"it is judged before a byte is set. A sheet has the extended number in its bytes 14 and\n"
-	"15, the low byte first. An older sheet has 0 there: it is for images whose extended\n"
-	"number is 0.\n";
+static const char sheet_help[] =
+	"empty  writes to OUT the sheet for IMAGE that sets nothing: a release with it only moves.\n"
+	"make   writes to OUT the sheet for IMAGE that the file TEXT describes.\n"
+	"show   shows SHEET as such a text; with IMAGE, each entry also has in a comment the bytes\n"
+	"       that it would replace and how many of them change. `sheet make` takes the output\n"
+	"       back and makes the same sheet of it.\n"
+	"\n"
+	"TEXT has a line for each entry: its offset in the configuration region (decimal, or hex\n"
+	"after 0x), then its bytes in hex, two digits each, as they stand in the image, with or\n"
+	"without blanks between them. Entries go by ascending offset. `#` starts a comment; empty\n"
+	"lines don't count. A sheet is for one identity, revision and extended number: IMAGE's. Lines\n"
+	"that name them (`identity`, `revision`, `extended`, and the value as `read` shows it) may\n"
+	"stand in TEXT, and then must be IMAGE's.\n"
+	"\n"
+	"    # boot from the second slot\n"
+	"    revision 0x01020304\n"
+	"    40 01 00\n"
+	"    0x60 FFEE      # offset 96\n"
+	"\n"
+	"The library judges every sheet: nothing is written unless it takes the sheet for IMAGE, and\n"
+	"of a text it refuses the line is named. make and empty show what the sheet is for, how many\n"
+	"entries it has and its length.\n";
+
+static const char sheet_out_help[] =
+	"\n"
+	"OUT may be none of the inputs. It is written whole or not at all, as by `release`.\n";
 
 static const char setting_help[] =
 	"Shows the place in the image, the length and the bytes of the setting of LENGTH bytes at\n"
@@ -77,7 +104,7 @@ static const char handoff_help[] =
 
 static const char out_help[] =
 	"\n"
-	"OUT may be IMAGE. It is written whole or not at all: a new file takes its name, with\n"
+	"OUT may be IMAGE, not SHEET. It is written whole or not at all: a new file takes its name, with\n"
 	"the old one's mode, when every byte is on the disk. A link is followed; a file that\n"
 	"may not be written stays. OUT stands even where standard output then can't be written.\n";
 
@@ -93,7 +120,8 @@ static const char general_help[] =
 	"\n"
 	"Options may stand before or after the files; `--` ends them. A file named like an option\n"
 	"or `help` is given as ./NAME. A file longer than 16777216 bytes is refused as an image:\n"
-	"with 1, as SHIPPED with 19. A file that can't be read is an error, not an empty image.\n"
+	"with 1, as SHIPPED with 19, as SHEET with 15; as TEXT it is an error. A file that can't be\n"
+	"read is an error, not an empty image.\n"
 	"\n"
 	"Exit status: 0 done (audit: explained), 1 audit: unexplained, 2 refused, wrong usage or\n"
 	"an input or output error. A refusal prints `refused N` and, on standard error, the file,\n"
@@ -103,10 +131,14 @@ static const char general_help[] =
 static const struct command commands[] = {
 	{ "read", { "IMAGE" }, WORDS, do_read, "[--words] IMAGE",
 	  "shows what an image's header says", read_help },
-	{ "move", { "IMAGE", "BASE", "OUT" }, 0, do_move, "IMAGE BASE OUT",
-	  "writes the image moved to another base", move_help },
-	{ "apply", { "IMAGE", "SHEET", "OUT" }, 0, do_apply, "IMAGE SHEET OUT",
-	  "writes the image with a release sheet's settings", apply_help },
+	{ "release", { "IMAGE", "SHEET", "BASE", "OUT" }, 0, do_release, "IMAGE SHEET BASE OUT",
+	  "writes the image with a sheet's settings, moved to a base", release_help },
+	{ "sheet empty", { "IMAGE", "OUT" }, 0, do_sheet_empty, "IMAGE OUT",
+	  "writes the sheet that sets nothing", sheet_help },
+	{ "sheet make", { "IMAGE", "TEXT", "OUT" }, 0, do_sheet_make, "IMAGE TEXT OUT",
+	  "writes the sheet that a text describes", sheet_help },
+	{ "sheet show", { "SHEET", "[IMAGE]" }, 0, do_sheet_show, "SHEET [IMAGE]",
+	  "shows a sheet as such a text", sheet_help },
 	{ "setting", { "IMAGE", "OFFSET", "LENGTH" }, 0, do_setting, "IMAGE OFFSET LENGTH",
 	  "shows one setting", setting_help },
 	{ "audit", { "VENDOR", "SHIPPED" }, BYTES | RANGES, do_audit,
@@ -119,11 +151,56 @@ static const struct command commands[] = {
 
 #define COMMANDS (sizeof commands / sizeof commands[0])
 
-/* A subcommand by its name; NULL where there is none. */
-const struct command *find_command(const char *name)
+/* Commands that were, and what to type instead. */
+static const struct {
+	const char *name, *instead;
+} gone[] = {
+	{ "move", "type release IMAGE SHEET BASE OUT; to set nothing, with the SHEET that "
+		  "sheet empty IMAGE SHEET writes" },
+	{ "apply", "type release IMAGE SHEET BASE OUT; to move nothing, with keep for BASE" },
+};
+
+/* What to type instead of a command that is gone; NULL for any other word. */
+const char *find_instead(const char *word)
+{
+	for (size_t i = 0; i < sizeof gone / sizeof gone[0]; i++)
+		if (strcmp(word, gone[i].name) == 0)
+			return gone[i].instead;
+	return NULL;
+}
+
+/* How many words a subcommand's name has. */
+int count_words(const struct command *command)
+{
+	return strchr(command->name, ' ') == NULL ? 1 : 2;
+}
+
+/* A name is the first word, or the first two with a blank between them. */
+static bool is_named(const char *name, char **word)
+{
+	const char *blank = strchr(name, ' ');
+	if (blank == NULL)
+		return strcmp(name, word[0]) == 0;
+	const size_t length = (size_t)(blank - name);
+	return strlen(word[0]) == length && strncmp(name, word[0], length) == 0 &&
+	       word[1] != NULL && strcmp(blank + 1, word[1]) == 0;
+}
+
+/* The subcommand that words start with; NULL where there is none. */
+const struct command *find_command(char **word)
 {
 	for (size_t i = 0; i < COMMANDS; i++)
-		if (strcmp(name, commands[i].name) == 0)
+		if (is_named(commands[i].name, word))
+			return &commands[i];
+	return NULL;
+}
+
+/* The first subcommand of two words whose first is this; NULL where there is none. */
+const struct command *find_group(const char *word)
+{
+	const size_t length = strlen(word);
+	for (size_t i = 0; i < COMMANDS; i++)
+		if (strncmp(commands[i].name, word, length) == 0 && commands[i].name[length] == ' ')
 			return &commands[i];
 	return NULL;
 }
@@ -143,16 +220,26 @@ static void show_refusal(uint32_t number)
 	puts(rest);
 }
 
+/* The usage of every subcommand that has this help, or of all where it is NULL. */
+static void show_usage(const char *help)
+{
+	const char *start = "usage:";
+	for (size_t i = 0; i < COMMANDS; i++) {
+		if (help != NULL && commands[i].help != help)
+			continue;
+		printf("%s pajurenda %s %s\n", start, commands[i].name, commands[i].usage);
+		start = "      ";
+	}
+}
+
 /* The help on all of it, with the names of the refusals. */
 static void show_general(void)
 {
-	for (size_t i = 0; i < COMMANDS; i++)
-		printf("%s pajurenda %s %s\n", i == 0 ? "usage:" : "      ", commands[i].name,
-		       commands[i].usage);
+	show_usage(NULL);
 	puts("       pajurenda help [COMMAND]\n       pajurenda --help | --version\n");
 	for (size_t i = 0; i < COMMANDS; i++)
-		printf("%-8s %s\n", commands[i].name, commands[i].brief);
-	puts("help     shows this, or the help of one command (also: COMMAND --help)");
+		printf("%-11s  %s\n", commands[i].name, commands[i].brief);
+	puts("help         shows this, or the help of one command (also: COMMAND --help)");
 	fputs(general_help, stdout);
 	for (uint32_t i = PAJURENDA_LENGTH; i <= PAJURENDA_ROOM; i++)
 		show_refusal(i);
@@ -170,9 +257,12 @@ enum status show_help(const struct command *command)
 		show_general();
 		return FINE;
 	}
-	printf("usage: pajurenda %s %s\n\n%s", command->name, command->usage, command->help);
-	if (command->run == do_move || command->run == do_apply)
+	show_usage(command->help);
+	printf("\n%s", command->help);
+	if (command->run == do_release)
 		fputs(out_help, stdout);
+	if (command->help == sheet_help)
+		fputs(sheet_out_help, stdout);
 	if (command->run != do_audit)
 		fputs(status_help, stdout);
 	return FINE;

@@ -4,7 +4,10 @@
 
 #include "command.h"
 
-const struct command *find_command(const char *name);
+const struct command *find_command(char **word);
+const struct command *find_group(const char *word);
+int count_words(const struct command *command);
+const char *find_instead(const char *word);
 enum status show_help(const struct command *command);
 enum status show_version(void);
 

@@ -1,6 +1,7 @@
 /* Errors on standard error. */
 #include "messages.h"
 
+#include <errno.h>
 #include <stdio.h>
 #include <string.h>
 
@@ -22,6 +23,12 @@ enum status fail_at(const char *name, int reason)
 	return FAILED;
 }
 
+/* There is no memory for what a file wants. */
+enum status fail_no_memory(const char *name)
+{
+	return fail_at(name, ENOMEM);
+}
+
 /* An answer that the header does not allow. */
 enum status fail_answer(void)
 {
@@ -40,5 +47,18 @@ enum status fail_usage(const char *command, const char *before, const char *word
 	say_name(word);
 	fprintf(stderr, "%s (see pajurenda %s%s--help)\n", after, command == NULL ? "" : command,
 		command == NULL ? "" : " ");
+	return FAILED;
+}
+
+/* OUT is an input that it must not replace, by the name that the usage has for it. */
+enum status fail_lost(const char *command, const char *input)
+{
+	return fail_usage(command, "OUT is ", input, " itself, which would be lost");
+}
+
+/* A command that is gone, and what to type instead. */
+enum status fail_gone(const char *command, const char *instead)
+{
+	fprintf(stderr, "pajurenda: %s is gone: %s (see pajurenda release --help)\n", command, instead);
 	return FAILED;
 }

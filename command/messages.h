@@ -10,6 +10,9 @@
 void say_name(const char *name);
 enum status fail_at(const char *name, int reason);
 enum status fail_answer(void);
+enum status fail_no_memory(const char *name);
+enum status fail_gone(const char *command, const char *instead);
+enum status fail_lost(const char *command, const char *input);
 enum status fail_usage(const char *command, const char *before, const char *word,
 		       const char *after);
 

@@ -37,6 +37,18 @@ static unsigned digit_of(char c)
 	return (unsigned)(strchr(digits, c) - digits) % 16;
 }
 
+/* Hex digits alone, and one at least. */
+bool all_hex(const char *text)
+{
+	return all_of(text, HEX);
+}
+
+/* The byte that two hex digits make. */
+uint8_t byte_of(const char *digits)
+{
+	return (uint8_t)(16 * digit_of(digits[0]) + digit_of(digits[1]));
+}
+
 /* The digits' value; false where it does not fit 64 bits. */
 static bool evaluate(const char *digits, unsigned radix, uint64_t *value)
 {
@@ -50,8 +62,18 @@ static bool evaluate(const char *digits, unsigned radix, uint64_t *value)
 	return true;
 }
 
-/* How a text that is no number here would be written: two ways, one way, or in general. */
-static void say_how(const char *text)
+/* A number of 64 bits. */
+enum number read_number(const char *text, uint64_t *value)
+{
+	const bool hex = is_hex(text);
+	if (!hex && !is_plain(text))
+		return NO_NUMBER;
+	return evaluate(hex ? text + 2 : text, hex ? 16 : 10, value) ? NUMBER : TOO_LARGE;
+}
+
+/* How a text that is no number here would be written: two ways, one way, or in general; the other
+   words that may stand in its place come last. */
+void say_how(const char *text, const char *other)
 {
 	const bool capital = text[0] == '0' && text[1] == 'X' && all_of(text + 2, HEX);
 	const char *decimal = text + strspn(text, "0");
@@ -64,25 +86,38 @@ static void say_how(const char *text)
 	else if (capital)
 		fprintf(stderr, "has a capital X: write 0x%s for hex", text + 2);
 	else
-		fputs("is not a number: write hex as 0x00512000, decimal without a leading 0",
-		      stderr);
+		fprintf(stderr, "is not a number: write hex as 0x00512000, decimal without a "
+			"leading 0%s", other);
+}
+
+/* A number from a word of the command line, or another word's place; false after a message. */
+static bool take(const char *command, const char *name, const char *text, const char *other,
+		 uint64_t *value)
+{
+	const enum number number = read_number(text, value);
+	if (number == NUMBER)
+		return true;
+	fprintf(stderr, "pajurenda: %s: %s \"", command, name);
+	say_name(text);
+	fputs("\" ", stderr);
+	if (number == TOO_LARGE)
+		fputs("does not fit 64 bits", stderr);
+	else
+		say_how(text, other);
+	fputc('\n', stderr);
+	return false;
 }
 
 /* A number of 64 bits from a word of the command line; false after a message. */
 bool take_number(const char *command, const char *name, const char *text, uint64_t *value)
 {
-	const bool hex = is_hex(text);
-	const bool number = hex || is_plain(text);
+	return take(command, name, text, "", value);
+}
 
-	if (number && evaluate(hex ? text + 2 : text, hex ? 16 : 10, value))
-		return true;
-	fprintf(stderr, "pajurenda: %s: %s \"", command, name);
-	say_name(text);
-	fputs("\" ", stderr);
-	if (number)
-		fputs("does not fit 64 bits", stderr);
-	else
-		say_how(text);
-	fputc('\n', stderr);
-	return false;
+/* A base, or `keep`; false after a message. */
+bool take_base(const char *command, const char *text, struct base *base)
+{
+	base->keep = strcmp(text, "keep") == 0;
+	return base->keep || take(command, "BASE", text, ", or keep for the image's own base",
+				  &base->value);
 }

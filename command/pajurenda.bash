@@ -6,7 +6,10 @@ _pajurenda_word()
 	case $1:$2 in
 	:*) echo commands ;;
 	help:0) echo topics ;;
-	read:0 | move:[02] | apply:[012] | setting:0 | audit:[01] | handoff:0) echo files ;;
+	sheet:0) echo sheets ;;
+	release:2) echo bases ;;
+	read:0 | release:[013] | setting:0 | audit:[01] | handoff:0) echo files ;;
+	sheet\ empty:[01] | sheet\ make:[012] | sheet\ show:[01]) echo files ;;
 	*) echo nothing ;;
 	esac
 }
@@ -23,6 +26,18 @@ _pajurenda_options()
 	esac
 }
 
+# one word before the current one: the subcommand, its second word, or one of its own; in command and words
+_pajurenda_take()
+{
+	if [[ -z $command ]]; then
+		command=$1
+	elif [[ $command == sheet ]]; then
+		command="sheet $1"
+	else
+		words=$((words + 1))
+	fi
+}
+
 _pajurenda()
 {
 	local current=${COMP_WORDS[COMP_CWORD]} command='' words=0 ended='' offered='' i
@@ -30,7 +45,7 @@ _pajurenda()
 		case $ended${COMP_WORDS[i]} in
 		--) ended=yes ;;
 		-?*) ;;
-		*) if [[ -z $command ]]; then command=${COMP_WORDS[i]}; else words=$((words + 1)); fi ;;
+		*) _pajurenda_take "${COMP_WORDS[i]}" ;;
 		esac
 	done
 	COMPREPLY=()
@@ -38,8 +53,10 @@ _pajurenda()
 		offered=$(_pajurenda_options "$command")
 	else
 		case $(_pajurenda_word "$command" "$words") in
-		commands) offered='read move apply setting audit handoff help' ;;
-		topics) offered='read move apply setting audit handoff' ;;
+		commands) offered='read release sheet setting audit handoff help' ;;
+		topics) offered='read release sheet setting audit handoff' ;;
+		sheets) offered='empty make show' ;;
+		bases) offered='keep' ;;
 		files)
 			compopt -o filenames 2>/dev/null
 			mapfile -t COMPREPLY < <(compgen -f -- "$current")

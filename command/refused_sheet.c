@@ -2,6 +2,7 @@
 #include <inttypes.h>
 #include <stdbool.h>
 #include <stdio.h>
+#include <string.h>
 
 #include "letters.h"
 #include "messages.h"
@@ -61,6 +62,16 @@ static void say_row(const struct bytes *sheet, uint64_t count)
 		")", row.length, row.body, row.running);
 }
 
+/* A text was given for a sheet: no sheet has text where its count stands. */
+static bool is_text(const struct bytes *file)
+{
+	const size_t count = file->length < 16 ? file->length : 16;
+	for (size_t i = 0; i < count; i++)
+		if (!is_printable(file->at + i, 1) && memchr("\t\n\r", file->at[i], 3) == NULL)
+			return false;
+	return count > 0;
+}
+
 /* 15: length, count, and the entries as far as they follow each other. */
 enum status refuse_sheet(const struct named *sheet)
 {
@@ -74,6 +85,8 @@ enum status refuse_sheet(const struct named *sheet)
 		fprintf(stderr, ", m %" PRIu64, count);
 		say_row(bytes, count);
 	}
+	if (is_text(bytes))
+		fputs(", and it is text: sheet make makes a sheet of it", stderr);
 	return end_refusal();
 }
 

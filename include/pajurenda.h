@@ -1,11 +1,11 @@
 /*
- * pajurenda: reads, moves, sets and audits one firmware support image (FSP) in lent memory, and
- * reads the list of hand-off blocks that firmware leaves after a boot.
+ * pajurenda: reads, releases (sets and moves) and audits one firmware support image (FSP) in lent
+ * memory, and reads the list of hand-off blocks that firmware leaves after a boot.
  *
  * A slice passes as a pointer and then its length in bytes. No pointer may be null, even where the
- * length is 0. A buffer that is written (an image to move or to set, a list of places, an answer)
- * must not overlap any other buffer of the same call. The calls keep nothing between them and hold
- * no memory of their own.
+ * length is 0. A buffer that is written (an image to release, a list of places, an answer) must not
+ * overlap any other buffer of the same call. The calls keep nothing between them and hold no memory
+ * of their own.
  *
  * Each call writes its answer into the caller's answer buffer: 64-bit little-endian numbers at the
  * offsets named below, from the buffer's first byte. Bytes after the answer are kept. The call
@@ -15,9 +15,9 @@
  *
  * A refused call changes no byte of an image and no byte of a list.
  *
- * Small inline functions at the end read a field of an answer and a place of the audit's list, take
- * an image's version apart, and give each number its name and its rule in a sentence, and each kind
- * of block its name. C99 and later, and C++.
+ * Small inline functions at the end read a field of an answer and a place of the audit's list, make
+ * an image's empty sheet, take its version apart, and give each number its name and its rule in a
+ * sentence, and each kind of block its name. C99 and later, and C++.
  */
 #ifndef PAJURENDA_H
 #define PAJURENDA_H
@@ -30,9 +30,9 @@ extern "C" {
 #endif
 
 /* The version of header and library: the whole, and its three numbers. */
-#define PAJURENDA_VERSION "0.8.0"
+#define PAJURENDA_VERSION "0.9.0"
 #define PAJURENDA_VERSION_MAJOR 0
-#define PAJURENDA_VERSION_MINOR 8
+#define PAJURENDA_VERSION_MINOR 9
 #define PAJURENDA_VERSION_PATCH 0
 
 /* The answer's number. A check is made only if all earlier ones passed. */
@@ -70,6 +70,8 @@ enum {
 enum {
 	PAJURENDA_MOST_IMAGE = 16777216, /* the longest image */
 	PAJURENDA_MOST_SHEET = 65535,    /* the longest sheet */
+	PAJURENDA_EMPTY_SHEET = 16,      /* the sheet without entries, and what stands before them */
+	PAJURENDA_ENTRY_BYTES = 8,       /* an entry of a sheet: offset (4), length (2), body (2) */
 	PAJURENDA_PLACE_BYTES = 4,       /* a place of the audit's list, little-endian */
 	PAJURENDA_STRAY = 16777216       /* what a stray's place has above its position */
 };
@@ -91,19 +93,22 @@ enum {
 	PAJURENDA_READ_BYTES = 96
 };
 
-/* The answer of pajurenda_move; where refused, the move is 0. */
+/* The answer of pajurenda_release; where refused, the move is 0. */
 enum {
-	PAJURENDA_MOVE_NUMBER = 0,
-	PAJURENDA_MOVE_INDEX = 8,
-	PAJURENDA_MOVE_MOVE = 16, /* new base minus old, signed, in two's complement */
-	PAJURENDA_MOVE_BYTES = 24
+	PAJURENDA_RELEASE_NUMBER = 0,
+	PAJURENDA_RELEASE_INDEX = 8,
+	PAJURENDA_RELEASE_MOVE = 16, /* new base minus old, signed, in two's complement */
+	PAJURENDA_RELEASE_BYTES = 24
 };
 
-/* The answer of pajurenda_apply. */
+/* The answer of pajurenda_sheet; where refused, zeros after the number. */
 enum {
-	PAJURENDA_APPLY_NUMBER = 0,
-	PAJURENDA_APPLY_INDEX = 8,
-	PAJURENDA_APPLY_BYTES = 16
+	PAJURENDA_SHEET_NUMBER = 0,
+	PAJURENDA_SHEET_COUNT = 8,     /* m, the number of entries */
+	PAJURENDA_SHEET_IDENTITY = 16, /* the eight bytes of the identity, in the sheet's order */
+	PAJURENDA_SHEET_REVISION = 24, /* the revision it is for */
+	PAJURENDA_SHEET_EXTENDED = 32, /* the extended number it is for */
+	PAJURENDA_SHEET_BYTES = 40
 };
 
 /* The answer of pajurenda_setting; where refused, zeros after the number. */
@@ -172,19 +177,18 @@ uint32_t pajurenda_read(const uint8_t *image, size_t length,
 			uint8_t *answer, size_t answer_length);
 
 /*
- * Moves an image in place: the base word and each patch word; the image's own refusals, then 18. A
- * base of 2^32 or more isn't legal; it is never cut down.
+ * Releases an image in place: the sheet's settings, and the move of the base word and each patch
+ * word to the new base; the image's own refusals, then 15, 16, 17, 18. The sheet is for an image by
+ * three parts: identity (its bytes 0 to 7), revision (8 to 11) and extended number (14 and 15; older
+ * sheets have 0 there). The empty sheet (pajurenda_empty_sheet) moves alone, the image's present
+ * base sets alone. A base of 2^32 or more isn't legal; it is never cut down.
  */
-uint32_t pajurenda_move(uint8_t *image, size_t length, uint64_t base,
-			uint8_t *answer, size_t answer_length);
+uint32_t pajurenda_release(uint8_t *image, size_t image_length,
+			   const uint8_t *sheet, size_t sheet_length, uint64_t base,
+			   uint8_t *answer, size_t answer_length);
 
-/*
- * Applies a release sheet in place, in the settings part alone; the image's own refusals, then 15,
- * 16, 17. The sheet is for an image by three parts: identity (its bytes 0 to 7), revision (8 to 11)
- * and extended number (14 and 15; older sheets have 0 there).
- */
-uint32_t pajurenda_apply(uint8_t *image, size_t length,
-			 const uint8_t *sheet, size_t sheet_length,
+/* Judges a release sheet by itself, for no image: number 0 and what it is for, or refusal 15. */
+uint32_t pajurenda_sheet(const uint8_t *sheet, size_t sheet_length,
 			 uint8_t *answer, size_t answer_length);
 
 /*
@@ -238,7 +242,7 @@ static inline uint64_t pajurenda_field(const uint8_t *answer, size_t field)
 	return pajurenda_number(answer + field, 8);
 }
 
-/* The same of a field with a sign: pajurenda_signed_field(answer, PAJURENDA_MOVE_MOVE). */
+/* The same of a field with a sign: pajurenda_signed_field(answer, PAJURENDA_RELEASE_MOVE). */
 static inline int64_t pajurenda_signed_field(const uint8_t *answer, size_t field)
 {
 	const uint64_t value = pajurenda_field(answer, field);
@@ -284,6 +288,28 @@ static inline unsigned pajurenda_image_revision(uint64_t revision, uint64_t exte
 static inline unsigned pajurenda_image_build(uint64_t revision, uint64_t extended)
 {
 	return (unsigned)((extended & 0xFF) << 8 | (revision & 0xFF));
+}
+
+/* The eight bytes of the identity in the answer of pajurenda_sheet. */
+static inline const uint8_t *pajurenda_sheet_identity(const uint8_t *answer)
+{
+	return answer + PAJURENDA_SHEET_IDENTITY;
+}
+
+/*
+ * The empty sheet of an image, PAJURENDA_EMPTY_SHEET bytes, by the answer of an accepted
+ * pajurenda_read: a release with it only moves.
+ */
+static inline void pajurenda_empty_sheet(const uint8_t *answer, uint8_t *sheet)
+{
+	for (size_t i = 0; i < 8; i++)
+		sheet[i] = answer[PAJURENDA_READ_IDENTITY + i];
+	for (size_t i = 0; i < 4; i++)
+		sheet[8 + i] = answer[PAJURENDA_READ_REVISION + i];
+	for (size_t i = 0; i < 2; i++) {
+		sheet[12 + i] = 0;
+		sheet[14 + i] = answer[PAJURENDA_READ_EXTENDED + i];
+	}
 }
 
 /* The i-th place of the audit's list, counted from 0, as it stands there. */

@@ -88,10 +88,12 @@ static void build_vendor(uint64_t length, uint64_t base)
 /* "Moving": the shipped file is the vendor's image moved; both are as long as it. */
 static void ship(uint64_t base)
 {
+	uint8_t empty[EMPTY_SHEET];
+	empty_sheet(empty);
 	if (second_read(image, now.length).number != 0)
 		fail("a vendor's image that isn't whole");
 	memcpy(sheet, image, now.length);
-	if (second_move(sheet, now.length, base).number != 0)
+	if (second_release(sheet, now.length, empty, EMPTY_SHEET, base).number != 0)
 		fail("the vendor's image can't be moved");
 	vendor_length = now.length;
 	shipped_length = now.length;

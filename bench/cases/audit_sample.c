@@ -83,12 +83,20 @@ static void build_vendor(void)
 	put(4136, 2, 0x0501);
 }
 
+/* #105: the shipped file is the vendor's image released with a sheet. */
+static void ship_with(uint64_t base, const uint8_t *release, uint64_t length)
+{
+	memcpy(sheet, image, now.length);
+	if (second_release(sheet, now.length, release, length, base).number != 0)
+		fail("the vendor's image can't be released");
+}
+
 /* "Moving": the shipped file is the vendor's image moved. */
 static void ship(uint64_t base)
 {
-	memcpy(sheet, image, now.length);
-	if (second_move(sheet, now.length, base).number != 0)
-		fail("the vendor's image can't be moved");
+	uint8_t empty[EMPTY_SHEET];
+	empty_sheet(empty);
+	ship_with(base, empty, EMPTY_SHEET);
 }
 
 /* The sample: one setting, and a word at 4,998 that was not moved, which shows in its byte at 5,000. */
@@ -109,9 +117,7 @@ static void make_explained(void)
 		0x01, 0x00, 0xA1, 0xB2, 0xC3,
 	};
 	build_vendor();
-	ship(0x00345000);
-	if (second_apply(sheet, now.length, release, sizeof release).number != 0)
-		fail("the sheet is refused");
+	ship_with(0x00345000, release, sizeof release);
 }
 
 /* Refusal 14 at index 2: the third word shares a byte with the first; both files are the same. */

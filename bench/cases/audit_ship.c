@@ -10,8 +10,10 @@ static uint64_t settings, strays;
 void ship(uint64_t base)
 {
 	build();
+	uint8_t empty[EMPTY_SHEET];
+	empty_sheet(empty);
 	memcpy(sheet, image, now.length);
-	if (second_move(sheet, now.length, base).number != 0)
+	if (second_release(sheet, now.length, empty, EMPTY_SHEET, base).number != 0)
 		fail("a shipped file that can't be moved");
 	settings = 0;
 	strays = 0;

@@ -277,6 +277,15 @@ uint64_t extended_number(void)
 	return now.header_revision >= 6 ? now.extended : 0;
 }
 
+/* #105: an empty sheet of the planned image's identity; with it a release only moves. */
+void empty_sheet(uint8_t *bytes)
+{
+	put_in(bytes, 0, 8, now.identity);
+	put_in(bytes, 8, 4, now.revision);
+	put_in(bytes, 12, 2, 0);
+	put_in(bytes, 14, 2, extended_number());
+}
+
 /* #102: a header revision by the fixed sequence, often 6 or more, with an L that it allows and a number. */
 void draw_revision(void)
 {

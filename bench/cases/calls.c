@@ -1,4 +1,4 @@
-/* The five calls: each sends a case, asks the second reader on copies of exact length, and writes its answer. */
+/* The four calls: each sends a case, asks the second reader on copies of exact length, and writes its answer. */
 #include "cases.h"
 #include "../second/second.h"
 
@@ -65,36 +65,37 @@ void show(uint64_t len, uint64_t number, uint64_t index)
 	count_case(CALL_READ, r.number);
 }
 
-/* "Moving". */
-void show_move(uint64_t len, uint64_t base, uint64_t number, uint64_t index)
-{
-	uint8_t *copy = copy_of(image, len);
-	const struct second_moved r = second_move(copy, len, base);
-	check_aim(r.number, r.index, number, index);
-	send_case(&(struct order){ .call = CALL_MOVE, .len = len, .a = base });
-	change_image(copy, len);
-	free(copy);
-	if (fprintf(answers, "%" PRIu64 " %" PRIu64 " %" PRId64 "\n", r.number, r.index, r.move) < 0)
-		fail("writing answers");
-	write_bytes(image, len);
-	count_case(CALL_MOVE, r.number);
-}
-
-/* "The release sheet". */
-void show_apply(uint64_t len, uint64_t other, uint64_t number, uint64_t index)
+/* #105: "One call to release". */
+void show_release(uint64_t len, uint64_t other, uint64_t base, uint64_t number, uint64_t index)
 {
 	uint8_t *copy = copy_of(image, len);
 	uint8_t *lent = copy_of(sheet, other);
-	const struct second_applied r = second_apply(copy, len, lent, other);
+	const struct second_released r = second_release(copy, len, lent, other, base);
 	check_aim(r.number, r.index, number, index);
-	send_case(&(struct order){ .call = CALL_APPLY, .len = len, .other = other });
+	send_case(&(struct order){ .call = CALL_RELEASE, .len = len, .other = other, .a = base });
 	change_image(copy, len);
 	free(copy);
 	free(lent);
-	if (fprintf(answers, "%" PRIu64 " %" PRIu64 "\n", r.number, r.index) < 0)
+	if (fprintf(answers, "%" PRIu64 " %" PRIu64 " %" PRId64 "\n", r.number, r.index, r.move) < 0)
 		fail("writing answers");
 	write_bytes(image, len);
-	count_case(CALL_APPLY, r.number);
+	count_case(CALL_RELEASE, r.number);
+}
+
+/* A release that only moves; the sheet that stood in buffer 1 stands there again after it. */
+void show_move(uint64_t len, uint64_t base, uint64_t number, uint64_t index)
+{
+	uint8_t kept[EMPTY_SHEET];
+	memcpy(kept, sheet, EMPTY_SHEET);
+	empty_sheet(sheet);
+	show_release(len, EMPTY_SHEET, base, number, index);
+	memcpy(sheet, kept, EMPTY_SHEET);
+}
+
+/* A release that only sets: to the base where the image is. */
+void show_apply(uint64_t len, uint64_t other, uint64_t number, uint64_t index)
+{
+	show_release(len, other, get(spot.H + 28, 4), number, index);
 }
 
 /* "One setting". */

@@ -9,11 +9,10 @@ static const struct {
 	const char *name;
 	void (*write)(void);
 	enum call call;
-	uint64_t more[4];
+	uint64_t more[5];
 } part[] = {
 	{ "read", read_part, CALL_READ, { 0 } },
-	{ "move", move_part, CALL_MOVE, { 0, 18 } },
-	{ "apply", apply_part, CALL_APPLY, { 0, 15, 16, 17 } },
+	{ "release", release_part, CALL_RELEASE, { 0, 15, 16, 17, 18 } },
 	{ "setting", setting_part, CALL_SETTING, { 0, 17 } },
 	{ "audit", audit_part, CALL_AUDIT, { 0, 18, 19, 20 } },
 };
@@ -95,7 +94,7 @@ int main(int argc, char **argv)
 {
 	const int names = argc - 3;
 	if (names < 1 || !all_known(names, argv + 1)) {
-		fprintf(stderr, "usage: cases PART... RECORDS ANSWERS (read move apply setting audit)\n");
+		fprintf(stderr, "usage: cases PART... RECORDS ANSWERS (read release setting audit)\n");
 		return 2;
 	}
 	FILE *records = fopen(argv[argc - 2], "wb");

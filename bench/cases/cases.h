@@ -1,4 +1,4 @@
-/* What the maker's files share: the plan of an image, the two buffers, and the five calls. */
+/* What the maker's files share: the plan of an image, the two buffers, and the four calls. */
 #ifndef BENCH_CASES_H
 #define BENCH_CASES_H
 
@@ -54,6 +54,7 @@ uint64_t reserved(uint64_t entry, uint64_t bits);
 uint64_t place_of(uint64_t k);
 uint64_t highest_base(void);
 uint64_t extended_number(void);
+void empty_sheet(uint8_t *bytes);
 void draw_revision(void);
 uint64_t random_base(void);
 void lay_out(void);
@@ -78,8 +79,10 @@ extern const unsigned rule[RULES];
 #define SMALLS 8
 #define ARRANGEMENTS 11
 
-/* stream.c: the records, each case as its difference from what was sent before. */
-enum call { CALL_NONE, CALL_READ, CALL_MOVE, CALL_APPLY, CALL_SETTING, CALL_AUDIT, CALLS };
+/* stream.c: the records, each case as its difference from what was sent before; 2 and 3 were calls before #105. */
+enum call { CALL_NONE = 0, CALL_READ = 1, CALL_SETTING = 4, CALL_AUDIT = 5, CALL_RELEASE = 6, CALLS };
+
+#define EMPTY_SHEET 16
 
 struct order {
 	enum call call;
@@ -99,16 +102,19 @@ extern uint64_t given[CALLS][NUMBERS];
 extern uint64_t explained;
 
 void show(uint64_t len, uint64_t number, uint64_t index);
+void show_release(uint64_t len, uint64_t other, uint64_t base, uint64_t number, uint64_t index);
 void show_move(uint64_t len, uint64_t base, uint64_t number, uint64_t index);
 void show_apply(uint64_t len, uint64_t other, uint64_t number, uint64_t index);
 void show_setting(uint64_t len, uint64_t offset, uint64_t size, uint64_t number);
 void show_audit(uint64_t len, uint64_t other, uint64_t places, uint64_t number, uint64_t index,
 		uint64_t settings, uint64_t strays);
 
-/* The five parts. */
+/* The four parts, and the three of the release part. */
 void read_part(void);
-void move_part(void);
-void apply_part(void);
+void release_part(void);
+void release_moves(void);
+void release_sheets(void);
+void release_both(void);
 void setting_part(void);
 void audit_part(void);
 

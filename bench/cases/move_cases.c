@@ -1,4 +1,4 @@
-/* The move part: images moved, there and back, with every kind of word, and refused with nothing patched. */
+/* Releases with an empty sheet: images moved, there and back, with every kind of word, and refused with nothing patched. */
 #include "cases.h"
 
 /* The planned image, moved once. */
@@ -202,8 +202,8 @@ static void move_random(void)
 	}
 }
 
-/* The move part. */
-void move_part(void)
+/* The releases that only move. */
+void release_moves(void)
 {
 	begin_part(UINT64_C(0xD1B54A32D192ED03), false);
 	for (unsigned k = 0; k < SMALLS; k++) {

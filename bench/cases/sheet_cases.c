@@ -1,15 +1,7 @@
-/* The apply part: whole sheets, refused images, sheets and moves in a row, and all of them in order. */
+/* Releases to the present base: whole sheets, refused images, sheets and moves in a row, and all of them in order. */
 #include "sheet_cases.h"
 
 #include <string.h>
-
-/* Every second byte of the settings. */
-static void draft_scattered(void)
-{
-	draft_start();
-	for (uint64_t offset = 33; offset < now.z; offset += 2)
-		draft_field(offset, 1);
-}
 
 /* "The release sheet": whole ones, from no field to one for each byte. */
 static void sheet_whole(unsigned k)
@@ -146,21 +138,6 @@ static void sheet_rows(unsigned k)
 	show_move(now.length, highest_base(), 0, 0);
 }
 
-/* Fields by the fixed sequence, in order and within the region. */
-static void draft_random(void)
-{
-	uint64_t offset = 32;
-	draft_start();
-	draft.flavour = below(256);
-	while (offset < now.z && draft.m < 9) {
-		offset += below(2) == 0 ? 0 : below(8);
-		const uint64_t length = 1 + below(9);
-		if (offset + length <= now.z)
-			draft_field(offset, length);
-		offset += length;
-	}
-}
-
 /* Sheets by the fixed sequence, and one number of each moved a little. */
 static void sheet_random(void)
 {
@@ -174,8 +151,8 @@ static void sheet_random(void)
 	}
 }
 
-/* The apply part. */
-void apply_part(void)
+/* The releases that only set. */
+void release_sheets(void)
 {
 	begin_part(UINT64_C(0x8CB92BA72F3D8DD7), false);
 	for (unsigned k = 0; k < SMALLS; k += 2)

@@ -21,6 +21,8 @@ void sheet_start(unsigned k);
 void draft_start(void);
 void draft_field(uint64_t offset, uint64_t length);
 void draft_standard(void);
+void draft_scattered(void);
+void draft_random(void);
 void draft_bodies(void);
 void write_draft(void);
 void apply_draft(uint64_t number);

@@ -52,6 +52,29 @@ void draft_standard(void)
 	draft_field(50, now.z - 50);
 }
 
+/* Every second byte of the settings. */
+void draft_scattered(void)
+{
+	draft_start();
+	for (uint64_t offset = 33; offset < now.z; offset += 2)
+		draft_field(offset, 1);
+}
+
+/* Fields by the fixed sequence, in order and within the region. */
+void draft_random(void)
+{
+	uint64_t offset = 32;
+	draft_start();
+	draft.flavour = below(256);
+	while (offset < now.z && draft.m < 9) {
+		offset += below(2) == 0 ? 0 : below(8);
+		const uint64_t length = 1 + below(9);
+		if (offset + length <= now.z)
+			draft_field(offset, length);
+		offset += length;
+	}
+}
+
 /* The draft in buffer 1, its bodies' bytes different from the image's. */
 void write_draft(void)
 {

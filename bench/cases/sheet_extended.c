@@ -1,4 +1,4 @@
-/* Apply cases: the extended number of #102 in bytes 14..15 of a sheet, against the image's. */
+/* Release cases: the extended number of #102 in bytes 14..15 of a sheet, against the image's. */
 #include "sheet_cases.h"
 
 /* A sheet of four fields with this number. */

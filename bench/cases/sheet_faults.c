@@ -1,4 +1,4 @@
-/* Apply cases: every way a sheet can be wrong, refusals 15 to 17. */
+/* Release cases: every way a sheet can be wrong, refusals 15 to 17. */
 #include "sheet_cases.h"
 
 /* Refusal 15: a whole sheet cut short at every byte, and one or two bytes left over. */

@@ -56,8 +56,42 @@ try_changed_sheets() {
 	while read -r bytes; do
 		# shellcheck disable=SC2086
 		changed "$work/sheet" "$i/any" $bytes
-		answer "$i/any" apply "$vendor" "$i/any" "$o/any"
+		answer "$i/any" release "$vendor" "$i/any" keep "$o/any"
 	done <"$work/drawn"
+}
+
+# a text with some of its bytes changed: a sheet that the library takes and that shows as what it is, or one line that names the line at fault
+# and OUT as it was
+try_changed_texts() {
+	printf '%s\nrevision 0x01020304\n# a word on what follows, as people write it\n40 01 00\n0x60 FFEE # and why\n\n100 00010203\n' "$treat" \
+		>"$work/good_text"
+	length=$(wc -c <"$work/good_text")
+	awk -v seed="$seed" -v length_of="$length" 'BEGIN { srand(seed); count = split("9 10 13 32 34 35 48 49 50 57 65 70 97 120", one, " ")
+		for (n = 0; n < 80; n++) {
+			line = ""
+			for (m = int(rand() * 2); m >= 0; m--)
+				line = line " " int(rand() * length_of) " " (rand() < 0.1 ? int(rand() * 256) : one[1 + int(rand() * count)])
+			print line } }' >"$work/drawn"
+	made=0
+	while read -r bytes; do
+		# shellcheck disable=SC2086
+		changed "$work/good_text" "$i/any" $bytes
+		cp "$work/old" "$o/any"
+		what="sheet make, bytes $bytes"
+		got=0
+		run sheet make "$vendor" "$i/any" "$o/any" >"$work/out" 2>"$work/err" || got=$?
+		if [ "$got" -eq 0 ]; then
+			made=$((made + 1))
+			again "$vendor" "$o/any"
+			continue
+		fi
+		status_was 2
+		same "$o/any" "$work/old"
+		[ "$(wc -l <"$work/err")" -eq 1 ] || fail "not one line on standard error"
+		grep -q -a -e "^pajurenda: $i/any: line [1-9]: ." -e "^$i/any: refused 1[567] [A-Z]*: .*: line [1-9]: ." "$work/err" || fail "no line is named"
+		passed
+	done <"$work/drawn"
+	if [ "$made" -lt 4 ] || [ "$made" -gt 76 ]; then fail "$made of 80 changed texts are taken"; fi
 }
 
 # cut at each place where something starts or ends, and files of random bytes
@@ -71,7 +105,7 @@ try_cut() {
 	for length in 0 1 16 71 72 100 1000 100000; do
 		head -c "$length" /dev/urandom >"$i/any"
 		answer "$i/any" read "$i/any"
-		answer "$i/any" apply "$vendor" "$i/any" "$o/any"
+		answer "$i/any" release "$vendor" "$i/any" keep "$o/any"
 	done
 }
 
@@ -93,5 +127,6 @@ try_any_ranges() {
 
 try_changed
 try_changed_sheets
+try_changed_texts
 try_cut
 try_any_ranges

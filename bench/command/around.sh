@@ -55,7 +55,14 @@ try_man_page() {
 	what='the man page'
 	grep -q "^.TH PAJURENDA 1 \".*\" \"pajurenda $version\"" "$page" || fail "not of version $version"
 	sed 's/\\-/-/g' "$page" >"$work/page"
-	sed -n 's/^ *\(usage:\)* *pajurenda \([a-z]*\) .*/\2/p; s/^ *\([0-9]*\)  *\([A-Z][A-Z]*\)  .*/\1 \2/p' "$work/help.all" >"$work/named"
+	sed -n 's/^ *\(usage:\)* *pajurenda \([a-z][a-z ]*[a-z]\) .*/\2/p' "$work/help.all" >"$work/commands"
+	[ "$(wc -l <"$work/commands")" -ge 9 ] || fail "the help names too few commands: $(cat "$work/commands")"
+	while read -r words; do
+		grep -qx "[.]B pajurenda $words" "$work/page" || fail "no synopsis of $words"
+		grep -qx "[.]B $words" "$work/page" || fail "no description of $words"
+		passed
+	done <"$work/commands"
+	sed -n 's/^ *\([0-9]*\)  *\([A-Z][A-Z]*\)  .*/\1 \2/p' "$work/help.all" >"$work/named"
 	grep -oh -e '--[a-z][a-z]*' "$work"/help.* | sort -u >>"$work/named"
 	[ "$(wc -l <"$work/named")" -ge 30 ] || fail "the help names too little: $(cat "$work/named")"
 	while read -r word; do

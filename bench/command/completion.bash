@@ -18,11 +18,14 @@ offers() {
 	count=$((count + 1))
 }
 
-offers 'apply|audit|handoff|help|move|read|setting' ''
-offers 'apply|audit' a
+offers 'audit|handoff|help|read|release|setting|sheet' ''
+offers 'audit' a
+offers 'read|release' r
+offers 'setting|sheet' s
 offers '--help|--version' -
 offers '--version' --v
-offers 'apply|audit|handoff|move|read|setting' help ''
+offers 'audit|handoff|read|release|setting|sheet' help ''
+offers '' help sheet ''
 offers 'handoff|help' h
 offers '' help read ''
 offers '--help|--words' read -
@@ -30,7 +33,9 @@ offers '--bytes|--help|--ranges' audit -
 offers '--ranges' audit image --r
 offers '--ranges' --bytes audit image --r
 offers '--help|--json' handoff -
-offers '--help' move -
+offers '--help' release -
+offers '--help' sheet -
+offers '--help' sheet make -
 offers '--help' setting -
 offers 'a b|image' read ''
 offers 'image' read i
@@ -39,10 +44,24 @@ offers '' read image ''
 offers 'a b|image' read --words ''
 offers 'a b|image' audit --ranges image ''
 offers '' audit image image ''
-offers 'a b|image' move ''
-offers '' move image ''
-offers 'a b|image' move image 0x1000 ''
-offers 'a b|image' apply image image ''
+offers '' move ''
+offers 'a b|image' release ''
+offers 'a b|image' release image ''
+offers 'keep' release image image ''
+offers '' release image image 0
+offers 'a b|image' release image image keep ''
+offers '' release image image keep image ''
+offers 'empty|make|show' sheet ''
+offers 'make' sheet m
+offers 'a b|image' sheet empty ''
+offers 'a b|image' sheet empty image ''
+offers '' sheet empty image image ''
+offers 'a b|image' sheet make image image ''
+offers '' sheet make image image image ''
+offers 'a b|image' sheet show image ''
+offers '' sheet show image image ''
+offers '' sheet nonsense ''
+offers 'a b|image' -- sheet show ''
 offers 'a b|image' setting ''
 offers '' setting image ''
 offers '' setting image 40 ''

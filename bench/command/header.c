@@ -78,12 +78,12 @@ static void try_numbers(void)
 /* The signed field holds a value, given in two's complement. */
 static void try_signed(uint64_t stored, int64_t value)
 {
-	uint8_t answer[PAJURENDA_MOVE_BYTES];
+	uint8_t answer[PAJURENDA_RELEASE_BYTES];
 	memset(answer, 0xA5, sizeof answer);
 	for (unsigned i = 0; i < 8; i++)
-		answer[PAJURENDA_MOVE_MOVE + i] = (uint8_t)(stored >> (8 * i));
-	check(pajurenda_signed_field(answer, PAJURENDA_MOVE_MOVE) == value, "a signed field");
-	check(pajurenda_field(answer, PAJURENDA_MOVE_MOVE) == stored, "a field");
+		answer[PAJURENDA_RELEASE_MOVE + i] = (uint8_t)(stored >> (8 * i));
+	check(pajurenda_signed_field(answer, PAJURENDA_RELEASE_MOVE) == value, "a signed field");
+	check(pajurenda_field(answer, PAJURENDA_RELEASE_MOVE) == stored, "a field");
 }
 
 /* Fields stand where the offsets say, little-endian. */
@@ -105,6 +105,24 @@ static void try_fields(void)
 	try_signed((uint64_t)0 - 4293394432u, -4293394432);
 	try_signed((uint64_t)INT64_MAX, INT64_MAX);
 	try_signed((uint64_t)INT64_MAX + 1, INT64_MIN);
+}
+
+/* The empty sheet has the three parts of a reading, and no byte after its 16; a sheet's fields stand where the offsets say. */
+static void try_sheets(void)
+{
+	static const uint8_t wanted[] = { 33, 34, 35, 36, 37, 38, 39, 40, 41, 42, 43, 44, 0, 0, 89, 90, 0x77 };
+	uint8_t answer[PAJURENDA_READ_BYTES], sheet[PAJURENDA_EMPTY_SHEET + 1];
+	for (size_t i = 0; i < sizeof answer; i++)
+		answer[i] = (uint8_t)(i + 1);
+	memset(sheet, 0x77, sizeof sheet);
+	pajurenda_empty_sheet(answer, sheet);
+	check(memcmp(sheet, wanted, sizeof wanted) == 0 && sizeof sheet == sizeof wanted, "the empty sheet");
+	check(pajurenda_sheet_identity(answer) == answer + 16, "a sheet's identity");
+	check(pajurenda_field(answer, PAJURENDA_SHEET_COUNT) == 0x100F0E0D0C0B0A09u, "a sheet's count");
+	check(pajurenda_field(answer, PAJURENDA_SHEET_REVISION) == 0x201F1E1D1C1B1A19u, "a sheet's revision");
+	check(pajurenda_field(answer, PAJURENDA_SHEET_EXTENDED) == 0x2827262524232221u, "a sheet's last field");
+	check(PAJURENDA_SHEET_EXTENDED + 8 == PAJURENDA_SHEET_BYTES, "the length of a sheet's answer");
+	check(PAJURENDA_RELEASE_MOVE + 8 == PAJURENDA_RELEASE_BYTES, "the length of a release's answer");
 }
 
 /* The parts of a version from its two numbers. */
@@ -158,6 +176,7 @@ int main(void)
 	try_handoff();
 	try_fields();
 	try_image_version();
+	try_sheets();
 	try_place(0, 0, 0);
 	try_place(16777215, 0, 16777215);
 	try_place(16777216, 1, 0);

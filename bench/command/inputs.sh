@@ -3,6 +3,7 @@
 # 128, the patch table at 172 with four entries from 184 to 200, the region at 4096 with 400 bytes.
 
 printf 'TREAT-01\004\003\002\001\001\000\000\000\050\000\000\000\002\000\030\000\001\000' >"$work/sheet"
+printf 'TREAT-01\004\003\002\001\000\000\000\000' >"$work/nothing"
 printf 'what was there before\n' >"$work/old"
 : >"$work/empty"
 head -c 71 "$vendor" >"$work/71"

@@ -40,20 +40,26 @@ try_unheard() {
 	unheard audit "$root/crates/audit_short/data/vendor.bin" "$root/crates/audit_short/data/shipped.bin"
 	unheard audit --bytes "$root/crates/audit_short/data/vendor.bin" "$root/crates/audit_short/data/shipped.bin"
 	unheard read "$work/empty"
-	unheard move "$vendor" 0x00100000 "$o/heard"
+	unheard sheet show "$work/sheet"
+	unheard sheet show "$work/sheet" "$vendor"
+	unheard sheet empty "$vendor" "$o/heard"
+	same "$o/heard" "$work/nothing"
+	unheard sheet make "$vendor" /dev/null "$o/heard"
+	same "$o/heard" "$work/nothing"
+	unheard release "$vendor" "$work/nothing" 0x00100000 "$o/heard"
 	same "$o/heard" "$o/moved"
 }
 
 # with no standard file open none of OUT's bytes may be a message
 try_all_closed() {
 	rm "$o/heard"
-	what="move, all standard files closed"
+	what="release, all standard files closed"
 	got=0
-	run move "$vendor" 0x00100000 "$o/heard" <&- >&- 2>&- || got=$?
+	run release "$vendor" "$work/nothing" 0x00100000 "$o/heard" <&- >&- 2>&- || got=$?
 	status_was 2
 	same "$o/heard" "$o/moved"
 	got=0
-	run move "$vendor" 1 "$o/heard" <&- >&- 2>&- || got=$?
+	run release "$vendor" "$work/nothing" 1 "$o/heard" <&- >&- 2>&- || got=$?
 	status_was 2
 	same "$o/heard" "$o/moved"
 }

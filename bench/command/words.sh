@@ -14,7 +14,7 @@ help_is() {
 try_help() {
 	works 0 --help
 	cp "$work/out" "$work/help.all"
-	for word in read move apply setting audit handoff help --words --bytes --ranges --json --version 'Exit status' \
+	for word in read release 'sheet empty' 'sheet make' 'sheet show' setting audit handoff help --words --bytes --ranges --json --version 'Exit status' \
 		' 20  ROOM' ' 22  RESERVED' '1 to 12, 22, 13, 14' ' 33  KIND'; do
 		grep -qF -e "$word" "$work/out" || fail "the help does not speak of $word"
 		passed
@@ -23,7 +23,7 @@ try_help() {
 		# shellcheck disable=SC2086
 		help_is all $words
 	done
-	for name in read move apply setting audit handoff; do
+	for name in read release sheet setting audit handoff; do
 		works 0 help "$name"
 		cp "$work/out" "$work/help.$name"
 		[ "$(head -n 1 "$work/out" | cut -d ' ' -f 1-3)" = "usage: pajurenda $name" ] || fail "no usage first"
@@ -34,7 +34,7 @@ try_help() {
 		done
 	done
 	grep -qF -e --words "$work/help.read" || fail "read's help has no --words"
-	for name in read apply; do
+	for name in read release sheet; do
 		grep -qF -e 'extended number' "$work/help.$name" || fail "$name's help has no extended number"
 	done
 	grep -qF -e --ranges "$work/help.audit" || fail "audit's help has no --ranges"
@@ -62,15 +62,14 @@ try_wrong_words() {
 	fails_with "pajurenda: unknown command \"\" $see" ''
 	fails_with "pajurenda: unknown command \"nonsense\" $see" help nonsense
 	fails_with "pajurenda: unknown command \"--help\" $see" -- --help
-	fails_with "pajurenda: help: one word too many: \"move\" $see" help read move
+	fails_with "pajurenda: help: one word too many: \"release\" $see" help read release
 	fails_with 'pajurenda: read: IMAGE is missing (see pajurenda read --help)' read
 	fails_with 'pajurenda: read: one word too many: "b" (see pajurenda read --help)' read a b
-	fails_with 'pajurenda: move: IMAGE and BASE and OUT are missing (see pajurenda move --help)' move
-	fails_with 'pajurenda: move: BASE and OUT are missing (see pajurenda move --help)' move a
-	fails_with 'pajurenda: move: OUT is missing (see pajurenda move --help)' move a 0
-	fails_with 'pajurenda: move: one word too many: "c" (see pajurenda move --help)' move a 0 b c
-	fails_with 'pajurenda: apply: OUT is missing (see pajurenda apply --help)' apply a b
-	fails_with 'pajurenda: apply: one word too many: "d" (see pajurenda apply --help)' apply a b c d e
+	fails_with 'pajurenda: release: IMAGE and SHEET and BASE and OUT are missing (see pajurenda release --help)' release
+	fails_with 'pajurenda: release: SHEET and BASE and OUT are missing (see pajurenda release --help)' release a
+	fails_with 'pajurenda: release: BASE and OUT are missing (see pajurenda release --help)' release a b
+	fails_with 'pajurenda: release: OUT is missing (see pajurenda release --help)' release a b 0
+	fails_with 'pajurenda: release: one word too many: "d" (see pajurenda release --help)' release a b 0 c d e
 	fails_with 'pajurenda: setting: LENGTH is missing (see pajurenda setting --help)' setting a 40
 	fails_with 'pajurenda: audit: SHIPPED is missing (see pajurenda audit --help)' audit a
 	fails_with 'pajurenda: audit: SHIPPED is missing (see pajurenda audit --help)' audit --bytes a
@@ -92,8 +91,8 @@ try_wrong_options() {
 	fails_with 'pajurenda: read: takes no option --ranges (see pajurenda read --help)' read "$vendor" --ranges
 	fails_with 'pajurenda: audit: --bytes and --ranges exclude each other (see pajurenda audit --help)' \
 		audit --bytes "$vendor" "$shipped" --ranges
-	keeps "$o" fails_with 'pajurenda: move: unknown option -1 (see pajurenda move --help)' move "$vendor" -1 "$o/none"
-	keeps "$o" fails_with 'pajurenda: move: takes no option --words (see pajurenda move --help)' move --words "$vendor" 0 "$o/none"
+	keeps "$o" fails_with 'pajurenda: release: unknown option -1 (see pajurenda release --help)' release "$vendor" "$work/nothing" -1 "$o/none"
+	keeps "$o" fails_with 'pajurenda: release: takes no option --words (see pajurenda release --help)' release --words "$vendor" "$work/nothing" 0 "$o/none"
 }
 
 # an option anywhere, and files that are named like one
@@ -122,16 +121,18 @@ try_options_anywhere() {
 		works 0 audit -- --bytes help
 		works 0 audit help -
 		fails_with 'pajurenda: --: No such file or directory' read -- --
-		keeps "$i" fails_with 'pajurenda: move: unknown option --out (see pajurenda move --help)' move v 0 --out
-		works 0 move v 0 -- --out
+		keeps "$i" fails_with 'pajurenda: release: unknown option --out (see pajurenda release --help)' release v "$work/nothing" 0 --out
+		works 0 release v "$work/nothing" 0 -- --out
 		same ./--out "$o/new"
 		rm -- --out
 	)
 }
 
-# misread NUMBER SENTENCE: the number is refused as each of the words that are numbers, and nothing is written
+or_keep=", or keep for the image's own base"
+
+# misread NUMBER SENTENCE [MORE]: the number is refused as each of the words that are numbers, and nothing is written
 misread() {
-	keeps "$o" fails_with "pajurenda: move: BASE \"$1\" $2" move "$vendor" "$1" "$o/none"
+	keeps "$o" fails_with "pajurenda: release: BASE \"$1\" $2${3-}" release "$vendor" "$work/nothing" "$1" "$o/none"
 	fails_with "pajurenda: setting: OFFSET \"$1\" $2" setting "$vendor" "$1" 1
 	fails_with "pajurenda: setting: LENGTH \"$1\" $2" setting "$vendor" 40 "$1"
 }
@@ -147,27 +148,84 @@ try_misread() {
 	misread 0b1 'has no 0x: write 0x0b1 for hex'
 	misread 0X00512000 'has a capital X: write 0x00512000 for hex'
 	for number in '' x 0x 0X 0xg 0x1g x512000 512000h +1 ' 1' '1 ' 1.0 16,777,216 1_000 0x0x1 '0x 1' 0x-1; do
-		misread "$number" 'is not a number: write hex as 0x00512000, decimal without a leading 0'
+		misread "$number" 'is not a number: write hex as 0x00512000, decimal without a leading 0' "$or_keep"
 	done
 	for number in 18446744073709551616 0x10000000000000000 99999999999999999999999 0x8000000000000000000; do
 		misread "$number" 'does not fit 64 bits'
 	done
-	fails_with 'pajurenda: move: BASE "1?2" is not a number: write hex as 0x00512000, decimal without a leading 0' move "$vendor" '1
+	fails_with "pajurenda: release: BASE \"1?2\" is not a number: write hex as 0x00512000, decimal without a leading 0$or_keep" release "$vendor" "$work/nothing" '1
 2' "$o/none"
+}
+
+# the image's own base is `keep` in this form alone
+try_keep() {
+	works 0 release "$o/moved" "$work/nothing" keep "$o/taken"
+	prints 'base 0x00100000' 'move 0' 'entries 0'
+	same "$o/taken" "$o/moved"
+	for word in Keep KEEP 'keep ' keep. same; do
+		keeps "$o" fails_with "pajurenda: release: BASE \"$word\" is not a number: write hex as 0x00512000, decimal without a leading 0$or_keep" \
+			release "$vendor" "$work/nothing" "$word" "$o/none"
+	done
+}
+
+# what was two commands once is told to who types them, whatever follows
+try_gone() {
+	line='is gone: type release IMAGE SHEET BASE OUT; to'
+	move="pajurenda: move $line set nothing, with the SHEET that sheet empty IMAGE SHEET writes (see pajurenda release --help)"
+	apply="pajurenda: apply $line move nothing, with keep for BASE (see pajurenda release --help)"
+	keeps "$o" fails_with "$move" move "$vendor" 0x00100000 "$o/none"
+	keeps "$o" fails_with "$apply" apply "$vendor" "$work/sheet" "$o/none"
+	for words in move 'move --help' 'move help' 'help move' '--help move' 'move --words' 'move --nonsense a' '-- move'; do
+		# shellcheck disable=SC2086
+		fails_with "$move" $words
+	done
+	for words in apply 'apply -h' 'help apply' 'apply a b c d'; do
+		# shellcheck disable=SC2086
+		fails_with "$apply" $words
+	done
+}
+
+# a command of two words: each has the same help, and words of its own
+try_two_words() {
+	for words in 'sheet make --help' 'help sheet make' 'sheet empty help' 'sheet show -h a b c' '--help sheet show' 'sheet nonsense --help'; do
+		# shellcheck disable=SC2086
+		help_is sheet $words
+	done
+	sheet_see='(see pajurenda sheet --help)'
+	fails_with "pajurenda: sheet: empty, make or show is missing $sheet_see" sheet
+	fails_with "pajurenda: sheet: \"nonsense\" is none of empty, make and show $sheet_see" sheet nonsense a b
+	fails_with "pajurenda: sheet: \"help\" is none of empty, make and show $sheet_see" sheet help a
+	fails_with "pajurenda: help: one word too many: \"nonsense\" $see" help sheet nonsense
+	fails_with "pajurenda: help: one word too many: \"a\" $see" help sheet make a
+	fails_with "pajurenda: unknown command \"make\" $see" make a b c
+	fails_with "pajurenda: unknown command \"sheet make\" $see" 'sheet make' a b c
+	fails_with "pajurenda: unknown command \"she\" $see" she make a b c
+	fails_with "pajurenda: unknown command \"sheets\" $see" sheets make a b c
+	fails_with "pajurenda: sheet: \"maker\" is none of empty, make and show $sheet_see" sheet maker a b c
+	fails_with 'pajurenda: sheet empty: IMAGE and OUT are missing (see pajurenda sheet empty --help)' sheet empty
+	fails_with 'pajurenda: sheet make: TEXT and OUT are missing (see pajurenda sheet make --help)' sheet make a
+	fails_with 'pajurenda: sheet make: one word too many: "d" (see pajurenda sheet make --help)' sheet make a b c d
+	fails_with 'pajurenda: sheet show: SHEET is missing (see pajurenda sheet show --help)' sheet show
+	fails_with 'pajurenda: sheet show: one word too many: "c" (see pajurenda sheet show --help)' sheet show a b c
+	fails_with 'pajurenda: sheet show: takes no option --json (see pajurenda sheet show --help)' sheet --json show a
+	fails_with 'pajurenda: sheet show: unknown option --text (see pajurenda sheet show --help)' sheet show a --text
+	fails_with 'pajurenda: --json: No such file or directory' sheet show -- --json
+	works 0 sheet -- show "$work/sheet"
+	works 0 -- sheet show "$work/sheet" "$vendor"
 }
 
 # digits of either case and any count of zeros after 0x; decimal as it is
 try_taken() {
 	for base in 0x512000 0x0512000 0x00512000 0x000000000000000000512000 5316608; do
-		works 0 move "$vendor" "$base" "$o/taken"
-		prints 'base 0x00512000' 'move -4289126400'
+		works 0 release "$vendor" "$work/nothing" "$base" "$o/taken"
+		prints 'base 0x00512000' 'move -4289126400' 'entries 0'
 	done
 	for base in 0xfff80000 0xFfF80000 4294443008; do
-		works 0 move "$vendor" "$base" "$o/taken"
-		prints 'base 0xFFF80000' 'move 0'
+		works 0 release "$vendor" "$work/nothing" "$base" "$o/taken"
+		prints 'base 0xFFF80000' 'move 0' 'entries 0'
 	done
-	works 0 move "$vendor" 512000 "$o/taken"
-	prints 'base 0x0007D000' 'move -4293931008'
+	works 0 release "$vendor" "$work/nothing" 512000 "$o/taken"
+	prints 'base 0x0007D000' 'move -4293931008' 'entries 0'
 	works 0 setting "$vendor" 0x28 0x2
 	prints 'place 4136' 'length 2' 'bytes 01 05'
 }
@@ -178,4 +236,7 @@ try_wrong_words
 try_wrong_options
 try_options_anywhere
 try_misread
+try_keep
+try_gone
+try_two_words
 try_taken

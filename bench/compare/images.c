@@ -188,6 +188,15 @@ uint64_t extended_number(const struct plan *plan)
 	return plan->header_revision >= 6 ? plan->extended : 0;
 }
 
+/* #105: with it a release only moves. */
+void empty_sheet(uint8_t *sheet, uint64_t identity, uint64_t revision, uint64_t extended)
+{
+	put_number(sheet, 0, 8, identity);
+	put_number(sheet, 8, 4, revision);
+	put_number(sheet, 12, 2, 0);
+	put_number(sheet, 14, 2, extended);
+}
+
 /* A legal base: any, the lowest or the highest. */
 uint64_t drawn_base(uint64_t length)
 {

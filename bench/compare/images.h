@@ -36,6 +36,10 @@ void lay_out(struct plan *plan, uint64_t at_least);
 /* The extended number of the planned image: 0 below header revision 6. */
 uint64_t extended_number(const struct plan *plan);
 
+/* A sheet without entries, of 16 bytes, for an image of an identity, revision and extended number. */
+#define EMPTY_SHEET 16
+void empty_sheet(uint8_t *sheet, uint64_t identity, uint64_t revision, uint64_t extended);
+
 /* A legal base for an image of some length. */
 uint64_t drawn_base(uint64_t length);
 

@@ -22,27 +22,27 @@ uint32_t pajurenda_read(const uint8_t *image, size_t length,
 	return (uint32_t)r.number;
 }
 
-/* The image moved in place. */
-uint32_t pajurenda_move(uint8_t *image, size_t length, uint64_t base,
-			uint8_t *answer, size_t answer_length)
+/* The image set and moved in place. */
+uint32_t pajurenda_release(uint8_t *image, size_t image_length,
+			   const uint8_t *sheet, size_t sheet_length, uint64_t base,
+			   uint8_t *answer, size_t answer_length)
 {
-	if (answer_length < PAJURENDA_MOVE_BYTES)
+	if (answer_length < PAJURENDA_RELEASE_BYTES)
 		return PAJURENDA_SHORT;
-	const struct second_moved r = second_move(image, length, base);
+	const struct second_released r = second_release(image, image_length, sheet, sheet_length, base);
 	const uint64_t fields[] = { r.number, r.index, (uint64_t)r.move };
 	put_fields(answer, fields, FIELDS(fields));
 	return (uint32_t)r.number;
 }
 
-/* The sheet applied in place. */
-uint32_t pajurenda_apply(uint8_t *image, size_t length,
-			 const uint8_t *sheet, size_t sheet_length,
+/* A sheet by itself. */
+uint32_t pajurenda_sheet(const uint8_t *sheet, size_t sheet_length,
 			 uint8_t *answer, size_t answer_length)
 {
-	if (answer_length < PAJURENDA_APPLY_BYTES)
+	if (answer_length < PAJURENDA_SHEET_BYTES)
 		return PAJURENDA_SHORT;
-	const struct second_applied r = second_apply(image, length, sheet, sheet_length);
-	const uint64_t fields[] = { r.number, r.index };
+	const struct second_judged r = second_sheet(sheet, sheet_length);
+	const uint64_t fields[] = { r.number, r.count, r.image_identity, r.revision, r.extended };
 	put_fields(answer, fields, FIELDS(fields));
 	return (uint32_t)r.number;
 }

@@ -31,7 +31,7 @@ static uint8_t *image, *shipped, *places;
 static uint32_t *list;
 static size_t size, places_count;
 static uint64_t entries;
-static uint8_t sheet[16 + 10 * FIELDS_SET];
+static uint8_t sheet[EMPTY_SHEET + 10 * FIELDS_SET], empty[EMPTY_SHEET];
 static uint8_t answer[PAJURENDA_READ_BYTES];
 static volatile uint64_t refused, different;
 static int (*const volatile whole_compare)(const void *, const void *, size_t) = memcmp;
@@ -56,24 +56,30 @@ static void plain_read(void)
 	refused += second_read(image, size).number;
 }
 
+/* The base that the image is at. */
+static uint64_t present_base(void)
+{
+	return get_number(image, (size_t)plan.H + 28, 4);
+}
+
 static void library_move(void)
 {
-	refused += pajurenda_move(image, size, next_base(), answer, sizeof answer);
+	refused += pajurenda_release(image, size, empty, sizeof empty, next_base(), answer, sizeof answer);
 }
 
 static void plain_move(void)
 {
-	refused += second_move(image, size, next_base()).number;
+	refused += second_release(image, size, empty, sizeof empty, next_base()).number;
 }
 
-static void library_apply(void)
+static void library_set(void)
 {
-	refused += pajurenda_apply(image, size, sheet, sizeof sheet, answer, sizeof answer);
+	refused += pajurenda_release(image, size, sheet, sizeof sheet, present_base(), answer, sizeof answer);
 }
 
-static void plain_apply(void)
+static void plain_set(void)
 {
-	refused += second_apply(image, size, sheet, sizeof sheet).number;
+	refused += second_release(image, size, sheet, sizeof sheet, present_base()).number;
 }
 
 static void library_audit(void)
@@ -216,13 +222,12 @@ static void row(const char *name, work *library, work *plain, work *third)
 
 /* ---- inputs ---- */
 
-/* A good sheet of a few settings of two bytes. */
+/* An empty sheet, and a good one of a few settings of two bytes. */
 static void make_sheet(void)
 {
-	put_number(sheet, 0, 8, plan.identity);
-	put_number(sheet, 8, 4, plan.revision);
+	empty_sheet(empty, plan.identity, plan.revision, extended_number(&plan));
+	memcpy(sheet, empty, sizeof empty);
 	put_number(sheet, 12, 2, FIELDS_SET);
-	put_number(sheet, 14, 2, extended_number(&plan));
 	for (uint64_t i = 0; i < FIELDS_SET; i++) {
 		put_number(sheet, 16 + 8 * i, 4, 32 + 4 * i);
 		put_number(sheet, 20 + 8 * i, 2, 2);
@@ -287,7 +292,7 @@ static void make_shipped(bool many)
 {
 	memcpy(shipped, image, size);
 	if (many) {
-		(void)second_move(shipped, size, 0x00100000);
+		refused += second_release(shipped, size, empty, sizeof empty, 0x00100000).number;
 		for (size_t at = (size_t)plan.E; at < size; at += 16)
 			shipped[at] ^= 0x11;
 	}
@@ -311,8 +316,8 @@ static void rows(size_t length, uint64_t n)
 {
 	make_image(length, n);
 	row("read", library_read, plain_read, NULL);
-	row("move", library_move, plain_move, NULL);
-	row("apply", library_apply, plain_apply, NULL);
+	row("release, move", library_move, plain_move, NULL);
+	row("release, sheet", library_set, plain_set, NULL);
 	make_shipped(false);
 	row("audit, none", library_audit, plain_audit, memcmp_whole);
 	make_shipped(true);
@@ -339,8 +344,9 @@ int main(void)
 	row("read, header of 65,534", library_read, plain_read, one_word_sum);
 	printf("\nProcessor time of our own, the best of as many runs as the row says (%u at least, in turn, until %u in a\n"
 	       "row were no better). Ratio: library's time / the other's. \"none\": no difference, memcmp over the\n"
-	       "whole; \"many\": moved, every 16th byte another, memcmp in blocks of %zu. \"handoffs\": blocks of 8 to\n"
-	       "56 bytes, n of them. \"header of 65,534\": beside it not memcmp but the header's sum alone, a word a turn.\n",
+	       "whole; \"many\": moved, every 16th byte another, memcmp in blocks of %zu. \"release, move\": an empty sheet;\n"
+	       "\"release, sheet\": the present base. \"handoffs\": blocks of 8 to 56 bytes, n of them. \"header of 65,534\":\n"
+	       "beside it not memcmp but the header's sum alone, a word a turn.\n",
 	       LEAST_RUNS, QUIET_RUNS, BLOCK);
 	return 0;
 }

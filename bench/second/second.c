@@ -3,6 +3,9 @@
 #include <stdbool.h>
 #include <stddef.h>
 
+#include "numbers.h"
+#include "sheet.h"
+
 #define TWO32 UINT64_C(4294967296)
 #define STRAY UINT64_C(16777216)
 #define MOST_WORDS 1025
@@ -29,15 +32,6 @@ static const uint8_t header_file[16] = {
 
 /* Refusal 11: the letters of components 1..4. */
 static const uint8_t component_letter[4] = { 'T', 'M', 'S', 'I' };
-
-/* Sources: all numbers are little-endian. */
-static uint64_t little(const uint8_t *bytes, uint64_t at, uint64_t width)
-{
-	uint64_t value = 0;
-	for (uint64_t i = width; i > 0; i--)
-		value = value * 256 + bytes[at + i - 1];
-	return value;
-}
 
 /* A number of the image. */
 static uint64_t number_at(const struct letters *w, uint64_t at, uint64_t width)
@@ -332,11 +326,6 @@ static bool refuse_overlap(struct letters *w)
 	return false;
 }
 
-/* Demand 2, #102: what makes an image the one that a sheet is for. */
-struct identity {
-	uint64_t image, revision, extended;
-};
-
 /* #102: the identity of an image past refusal 5. */
 static struct identity identity_of(const struct letters *w)
 {
@@ -422,82 +411,10 @@ static void move_words(const struct letters *w, uint8_t *image, uint64_t by)
 	}
 }
 
-/* "Moving": the image's refusals, then 18. */
-struct second_moved second_move(uint8_t *image, uint64_t length, uint64_t new_base)
-{
-	struct letters w = { .image = image, .length = length };
-	uint64_t number = judge(&w);
-
-	if (number == 0 && !legal(new_base, length))
-		number = 18;
-	if (number != 0)
-		return (struct second_moved){ .number = number, .index = w.index };
-	move_words(&w, image, difference(new_base, w.base));
-	return (struct second_moved){ .move = (int64_t)new_base - (int64_t)w.base };
-}
-
-/* "The release sheet": the lent sheet and its count m. */
-struct sheet {
-	const uint8_t *bytes;
-	uint64_t length;
-	uint64_t m;
-};
-
-/* "The release sheet": one entry of 8 bytes. */
-struct field {
-	uint64_t offset, length, body;
-};
-
-/* "The release sheet": m entries of 8 bytes from 16 on. */
-static struct field field_at(const struct sheet *s, uint64_t i)
-{
-	const uint64_t at = 16 + 8 * i;
-	return (struct field){
-		.offset = little(s->bytes, at, 4),
-		.length = little(s->bytes, at + 4, 2),
-		.body = little(s->bytes, at + 6, 2),
-	};
-}
-
-/* Refusal 15: lengths, running body positions, offsets in order, the last body ending the sheet. */
-static bool refuse_fields(const struct sheet *s)
-{
-	uint64_t running = 16 + 8 * s->m, end = 0;
-	if (running > s->length)
-		return true;
-	for (uint64_t i = 0; i < s->m; i++) {
-		const struct field field = field_at(s, i);
-		if (field.length == 0 || field.body != running || field.offset < end)
-			return true;
-		running += field.length;
-		end = field.offset + field.length;
-	}
-	return running != s->length;
-}
-
-/* Refusal 15. */
-static bool refuse_sheet(struct sheet *s)
-{
-	if (s->length < 16 || s->length > 65535)
-		return true;
-	s->m = little(s->bytes, 12, 2);
-	return s->m > 256 || refuse_fields(s);
-}
-
-/* #102: the identity that a sheet carries; bytes 14..15 are 0 in an older one. */
-static struct identity sheet_identity(const struct sheet *s)
-{
-	return (struct identity){
-		.image = little(s->bytes, 0, 8),
-		.revision = little(s->bytes, 8, 4),
-		.extended = little(s->bytes, 14, 2),
-	};
-}
-
 /* Refusal 16: each of the three parts. */
 static bool refuse_identity(const struct letters *w, const struct sheet *s)
 {
-	const struct identity image = identity_of(w), other = sheet_identity(s);
+	const struct identity image = identity_of(w), other = second_sheet_identity(s);
 	return other.image != image.image || other.revision != image.revision ||
 	       other.extended != image.extended;
 }
@@ -506,42 +423,50 @@ static bool refuse_identity(const struct letters *w, const struct sheet *s)
 static bool refuse_field(const struct letters *w, const struct sheet *s)
 {
 	for (uint64_t i = 0; i < s->m; i++) {
-		const struct field field = field_at(s, i);
+		const struct field field = second_sheet_field(s, i);
 		if (field.offset < 32 || field.offset + field.length > w->z)
 			return true;
 	}
 	return false;
 }
 
-/* "The release sheet": the image's refusals, then 15, 16, 17. */
-static uint64_t judge_sheet(struct letters *w, struct sheet *s)
+/* #105: the image's refusals, then the sheet's 15, 16, 17, then 18. */
+static uint64_t judge_release(struct letters *w, struct sheet *s, uint64_t new_base)
 {
 	const uint64_t number = judge(w);
 	if (number != 0)
 		return number;
-	if (refuse_sheet(s))
+	if (second_sheet_refused(s))
 		return 15;
 	if (refuse_identity(w, s))
 		return 16;
-	return refuse_field(w, s) ? 17 : 0;
+	if (refuse_field(w, s))
+		return 17;
+	return legal(new_base, w->length) ? 0 : 18;
 }
 
-/* "The release sheet": the bodies go into the region, every other byte stays. */
-struct second_applied second_apply(uint8_t *image, uint64_t length,
-				   const uint8_t *sheet, uint64_t sheet_length)
+/* "The release sheet": the body of one entry goes into the region. */
+static void set_field(const struct letters *w, uint8_t *image, const struct sheet *s, uint64_t i)
+{
+	const struct field field = second_sheet_field(s, i);
+	for (uint64_t k = 0; k < field.length; k++)
+		image[w->c + field.offset + k] = s->bytes[field.body + k];
+}
+
+/* #105: the sheet's bytes are set, then the image is moved; refused, no byte changes. */
+struct second_released second_release(uint8_t *image, uint64_t length,
+				      const uint8_t *sheet, uint64_t sheet_length, uint64_t new_base)
 {
 	struct letters w = { .image = image, .length = length };
 	struct sheet s = { .bytes = sheet, .length = sheet_length };
-	const uint64_t number = judge_sheet(&w, &s);
+	const uint64_t number = judge_release(&w, &s, new_base);
 
 	if (number != 0)
-		return (struct second_applied){ .number = number, .index = w.index };
-	for (uint64_t i = 0; i < s.m; i++) {
-		const struct field field = field_at(&s, i);
-		for (uint64_t k = 0; k < field.length; k++)
-			image[w.c + field.offset + k] = sheet[field.body + k];
-	}
-	return (struct second_applied){ .number = 0 };
+		return (struct second_released){ .number = number, .index = w.index };
+	for (uint64_t i = 0; i < s.m; i++)
+		set_field(&w, image, &s, i);
+	move_words(&w, image, difference(new_base, w.base));
+	return (struct second_released){ .move = (int64_t)new_base - (int64_t)w.base };
 }
 
 /* "One setting": the image's refusals, then 17; the end is a whole number that is never cut down. */

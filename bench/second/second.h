@@ -21,15 +21,19 @@ struct second_reading {
 };
 
 /* The move is the new base minus the old one; 0 where refused. */
-struct second_moved {
+struct second_released {
 	uint64_t number;
 	uint64_t index;
 	int64_t move;
 };
 
-struct second_applied {
+/* What a sheet is for and how many entries it has; zeros where refused. */
+struct second_judged {
 	uint64_t number;
-	uint64_t index;
+	uint64_t count;
+	uint64_t image_identity;
+	uint64_t revision;
+	uint64_t extended;
 };
 
 /* The part of the image that holds a setting: its position in the image; length 0 where refused. */
@@ -52,10 +56,12 @@ struct second_audited {
 
 struct second_reading second_read(const uint8_t *image, uint64_t length);
 
-struct second_moved second_move(uint8_t *image, uint64_t length, uint64_t new_base);
+/* An empty sheet of the image's identity only moves, the present base only sets. */
+struct second_released second_release(uint8_t *image, uint64_t length,
+				      const uint8_t *sheet, uint64_t sheet_length, uint64_t new_base);
 
-struct second_applied second_apply(uint8_t *image, uint64_t length,
-				   const uint8_t *sheet, uint64_t sheet_length);
+/* A sheet judged by itself, as every release judges it: 0 or 15. */
+struct second_judged second_sheet(const uint8_t *sheet, uint64_t sheet_length);
 
 struct second_part second_setting(const uint8_t *image, uint64_t length,
 				  uint64_t offset, uint64_t size);

@@ -13,8 +13,8 @@ use lib.Seq.{drop-cons, drop-length}
 use Rattle.facts.specs.Fact.{test}
 use Rattle.words.specs.Put.{put, putAll}
 use Rattle.image.specs.Reading.{reading}
-use Rattle.sheet.specs.Setting.{settingNumber, settingPart}
-use Rattle.sheet.specs.SettingLaws.{setting-passed, setting-accepted}
+use Rattle.lookup.specs.Setting.{settingNumber, settingPart}
+use Rattle.lookup.specs.SettingLaws.{setting-passed, setting-accepted}
 use Rattle.answers.specs.Answers.{ifRoom, twos, finding}
 
 module _ {T : Type 0} (k : ℕ) (A : List ℕ) (x y : T) where

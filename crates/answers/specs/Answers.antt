@@ -12,8 +12,8 @@ use Rattle.words.specs.Put.{putAll}
 use Rattle.image.specs.declared.Reading.{Reading}
 use Rattle.image.specs.Reading.{reading}
 use Rattle.moving.specs.declared.Moved.{Moved}
-use Rattle.sheet.specs.declared.Applied.{Applied}
-use Rattle.sheet.specs.Setting.{settingNumber}
+use Rattle.sheet.specs.declared.SheetReading.{SheetReading}
+use Rattle.lookup.specs.Setting.{settingNumber}
 use Rattle.audit.specs.declared.Audited.{Audited}
 use Rattle.answers.specs.declared.Found.{Found}
 
@@ -40,13 +40,13 @@ readFields r =
     r .number ∷ r .index ∷ r .H ∷ r .component ∷ r .identity .image ∷ r .identity .revision ∷ r .base ∷ r .c ∷ r .z ∷ r .n ∷ r .E
     ∷ r .identity .extended ∷ []
 
--- a move: number, index, how far
+-- a release: number, index, how far
 abbrev pub moveFields : Moved → List ℕ
 moveFields r = r .number ∷ r .index ∷ twos (r .distance) ∷ []
 
--- an apply: number, index
-abbrev pub applyFields : Applied → List ℕ
-applyFields r = r .number ∷ r .index ∷ []
+-- a sheet by itself: number, entries, image identity, revision, extended number
+abbrev pub sheetFields : SheetReading → List ℕ
+sheetFields r = r .number ∷ r .count ∷ r .identity .image ∷ r .identity .revision ∷ r .identity .extended ∷ []
 
 -- where the part of the lent image that holds a setting starts, and its length; zeros where it is refused
 unfoldable pub finding : List ℕ → ℕ → ℕ → Found

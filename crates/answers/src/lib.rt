@@ -5,13 +5,13 @@ use handoff::Stepped;
 use handoffs::Counted;
 use image::Reading;
 use moving::Moved;
-use sheet::Applied;
+use sheet::SheetReading;
 ghost use mathlib.Core.Path.{_≡_};
 ghost use Prim.Native.Nat.{_*_, _≤_};
 ghost use lib.ListN.{length};
 ghost use Rattle.words.specs.Put.{putAll};
 ghost use Rattle.answers.specs.Steps.{kindFields, stepFields, countFields};
-ghost use Rattle.answers.specs.Answers.{twos, readFields, moveFields, applyFields, Finds, settingFields, auditFields};
+ghost use Rattle.answers.specs.Answers.{twos, readFields, moveFields, sheetFields, Finds, settingFields, auditFields};
 
 // The fields, eight bytes each, from the buffer's start on.
 fn write_fields(answer: &mut [u8], fields: &[u64])
@@ -66,11 +66,18 @@ pub fn write_moved(answer: &mut [u8], r: Moved)
     write_fields(answer, &fields);
 }
 
-pub fn write_applied(answer: &mut [u8], r: Applied)
-    requires { ⌜ 16 ≤ length (now answer) ⌝ }
-    ensures { λ _. ⌜ now (answer .exit) ≡ putAll 8 (now (answer .entry)) 0 (applyFields r) ⌝ }
+pub fn write_sheet_reading(answer: &mut [u8], r: SheetReading)
+    requires { ⌜ 40 ≤ length (now answer) ⌝ }
+    ensures { λ _. ⌜ now (answer .exit) ≡ putAll 8 (now (answer .entry)) 0 (sheetFields r) ⌝ }
 {
-    let fields = [r.number as u64, r.index as u64];
+    let k = r.identity;
+    let fields = [
+        r.number as u64,
+        r.count as u64,
+        k.image,
+        k.revision as u64,
+        k.extended as u64,
+    ];
     write_fields(answer, &fields);
 }
 
@@ -84,7 +91,7 @@ pub struct Found {
 pub fn find(image: &[u8], offset: u64, size: u64) -> Found
     ensures { λ r. ⌜ Finds (now (image .entry)) offset size r ⌝ }
 {
-    let number = sheet::setting_number(image, offset, size);
+    let number = lookup::setting_number(image, offset, size);
     if number != 0 {
         return Found {
             number,

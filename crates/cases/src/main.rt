@@ -65,25 +65,17 @@ fn show_bytes(bytes: &[u8]) {
     line();
 }
 
-fn call_move(image: &mut [u8], base: u64) {
-    show_move(moving::move_image(image, base));
-    show_bytes(image);
-}
-
-fn call_apply(image: &mut [u8], sheet: &[u8]) {
-    let v = sheet::apply(image, sheet);
-    io::print_decimal(STDOUT_FILENO, v.number as u64);
-    field(v.index as u64);
-    line();
+fn call_release(image: &mut [u8], sheet: &[u8], base: u64) {
+    show_move(release::release(image, sheet, base));
     show_bytes(image);
 }
 
 fn call_setting(image: &[u8], offset: u64, size: u64) {
     io::print_decimal(
         STDOUT_FILENO,
-        sheet::setting_number(image, offset, size) as u64,
+        lookup::setting_number(image, offset, size) as u64,
     );
-    let part = sheet::setting(image, offset, size);
+    let part = lookup::setting(image, offset, size);
     field(part.len() as u64);
     line();
     show_bytes(part);
@@ -151,14 +143,12 @@ fn answer(image: &mut [u8], other: &[u8], k: Record) {
     let call = k.call;
     if call == 1 {
         show_reading(image::read(image));
-    } else if call == 2 {
-        call_move(image, k.a as u64);
-    } else if call == 3 {
-        call_apply(image, other);
     } else if call == 4 {
         call_setting(image, k.a as u64, k.b as u64);
     } else if call == 5 {
         call_audit(image, other, k.a);
+    } else if call == 6 {
+        call_release(image, other, k.a as u64);
     }
 }
 

@@ -1,4 +1,4 @@
--- Demand 3: what the library itself makes of an image by moves and sheets, in any order, is explained, and the base named is the last one.
+-- Demand 3: what a chain of accepted releases makes of an image is explained, and the base named is the last one.
 -- Assumes nothing.
 use mathlib.Core.Bool.{true}
 use mathlib.Core.List.{List}

@@ -4,10 +4,12 @@
 use Prim.Native.Nat.{ℕ, suc, _+_, _-_, _%_, _/_, _^_, _≤_, _<_}
 use mathlib.Core.Bool.{true, false}
 use mathlib.Core.List.{List}
+use mathlib.Core.Logic.{_⊎_, inl, inr}
 use mathlib.Core.Path.{_≡_, refl, sym, ap, _∙_}
 use native.Mathlib.Omega.{arith}
 use lib.ListN.{length, getD}
 use Rattle.facts.specs.Fact.{Holds}
+use Rattle.facts.specs.Rules.{run, by-test}
 use Rattle.words.specs.Le.{le, Bytes}
 use Rattle.header.specs.Base.{legalBase}
 use Rattle.image.specs.declared.Reading.{Reading}
@@ -16,20 +18,23 @@ use Rattle.image.specs.Guarantee.{guaranteed}
 use Rattle.image.specs.Numbers.{Numbered, None, numbered}
 use Rattle.moving.specs.declared.Moved.{Moved}
 use Rattle.moving.specs.Moves.{difference, Beside}
-use Rattle.moving.specs.Moving.{wordsAt, wordsOf, acceptedMove, MovesTo}
-use Rattle.moving.specs.MovingLaws.{moving-accepted}
-use Rattle.moving.specs.Theorems.{OwnMove, move-numbered, move-kept, unmoved-byte, moved-number, moved-reads, there-and-back}
-use Rattle.sheet.specs.declared.Applied.{Applied}
-use Rattle.sheet.specs.Sheet.{count, offset, size, bodyAt}
-use Rattle.sheet.specs.Applying.{fieldsOf, Applies}
-use Rattle.sheet.specs.Setting.{NumberOf}
-use Rattle.sheet.specs.Theorems.{OwnApply, apply-numbered, apply-kept, OwnLookup, lookup-numbered, unset-byte, set-byte, applied-reads}
+use Rattle.moving.specs.Moving.{wordsAt, wordsOf, acceptedMove, movedImage}
+use Rattle.sheet.specs.declared.SheetReading.{SheetReading}
+use Rattle.sheet.specs.Sheet.{count, offset, size, bodyAt, sheetFits}
+use Rattle.sheet.specs.ReadSheet.{sheetReading, ReadsSheet}
+use Rattle.sheet.specs.Set.{fieldsOf, setImage}
+use Rattle.lookup.specs.Setting.{NumberOf}
+use Rattle.lookup.specs.Theorems.{OwnLookup, lookup-numbered}
+use Rattle.steps.specs.SetStep.{Within}
+use Rattle.release.specs.Release.{releasing, releasedImage, Releases}
+use Rattle.release.specs.ReleaseLaws.{Releasable, release-kept, release-shows, release-accepted}
+use Rattle.released.specs.Theorems.{OwnRelease, release-numbered, released-fits, set-then-moved, moved-then-set, released-reads, released-entry, released-word, released-other, entry-beside, empty-moves, present-sets, there-and-back}
 use Rattle.audit.specs.declared.Audited.{Audited}
 use Rattle.audit.specs.Audit.{shippedBase, reference, differing, auditing, Audits, AuditsBytes}
 use Rattle.audit.specs.AuditLaws.{OwnAudit, audit-numbered, list-kept, bytes-kept, Accepted, audit-accepted, names, fits}
 use Rattle.walk.specs.Differences.{entry, settings, strays, bits}
 use Rattle.demands.specs.Explains.{Turns}
-use Rattle.demands.specs.Made.{Made, start, moved, set}
+use Rattle.demands.specs.Made.{Made, start, then, made-explains}
 use Rattle.demands.specs.Always.{made-explained}
 use Rattle.demands.specs.Makes.{Makes, explains-made}
 use Rattle.demands.specs.Explained.{explained-shows, ascending, differs-at, all-listed, told-always, told-counts, place-is, place-kept, too-short, turned}
@@ -40,9 +45,8 @@ use Rattle.demands.specs.Explained.{explained-shows, ascending, differs-
 abbrev pub Demand1 : Type 0
 Demand1 =
     ((xs : List ℕ) (r : Reading) → Reads xs r → Numbered xs None (r .number) (r .index))
-    × ((xs : List ℕ) (base : ℕ) (r : Moved) (ys : List ℕ) → MovesTo xs base r ys → Numbered xs OwnMove (r .number) (r .index) ×
-    ((r .number ≡ 0 → ⊥) → ys ≡ xs))
-    × ((xs s : List ℕ) (r : Applied) (ys : List ℕ) → Applies xs s r ys → Numbered xs OwnApply (r .number) (r .index) ×
+    × ((s : List ℕ) (r : SheetReading) → ReadsSheet s r → (r .number ≡ 0) ⊎ (r .number ≡ 15))
+    × ((xs s : List ℕ) (base : ℕ) (r : Moved) (ys : List ℕ) → Releases xs s base r ys → Numbered xs OwnRelease (r .number) (r .index) ×
     ((r .number ≡ 0 → ⊥) → ys ≡ xs))
     × ((xs : List ℕ) (offset size k : ℕ) → NumberOf xs offset size k → Numbered xs OwnLookup k 0)
     × ((xs ys places : List ℕ) (a : Audited) (l : List ℕ) → Audits xs ys places a l → Numbered xs OwnAudit (a .number) (a .index) ×
@@ -50,32 +54,36 @@ Demand1 =
     × ((xs ys bytes : List ℕ) (a : Audited) (l : List ℕ) → AuditsBytes xs ys bytes a l → Numbered xs OwnAudit (a .number) (a .index) ×
     ((a .number ≡ 0 → ⊥) → l ≡ bytes))
 
--- ---- demand 2, a move of an image that reads to a legal base: what it answers, that the difference is added to each word of the move
--- and to no other byte, that the image then reads at the new base, and that moving back restores it
+-- ---- demand 2, over the two steps of a release that is accepted: what it answers; that each byte of the sheet's entries is its body's, that
+-- the difference is added to each word of the move, that no byte is both, and that every other byte is what it was; that the image then
+-- reads at the new base; that either step may come first; and what an empty sheet and the present base do
 
-pub record Moved-right (xs : List ℕ) (base : ℕ) (r : Moved) (ys : List ℕ) : Type 0 where
+pub record Released-right (xs s : List ℕ) (base : ℕ) (r : Moved) (ys : List ℕ) : Type 0 where
   pub answer : r ≡ acceptedMove (reading xs) base
+  pub entries : (i j : ℕ) → i < count s → j < size s i → getD ys (reading xs .c + offset s i + j) 0 ≡ getD s (bodyAt s i + j) 0
   pub words : (j : ℕ) → j < suc (reading xs .n)
       → le 4 ys (wordsAt xs (reading xs) j) ≡ (le 4 xs (wordsAt xs (reading xs) j) + difference (reading xs .base) base 4) % 2 ^ 32
-  pub others : (k : ℕ) → Beside (wordsOf xs (reading xs)) (suc (reading xs .n)) k → getD ys k 0 ≡ getD xs k 0
+  pub apart : (k : ℕ) → Within (reading xs) s k → Beside (wordsOf xs (reading xs)) (suc (reading xs .n)) k
+  pub others : (k : ℕ) → Beside (fieldsOf (reading xs) s) (count s) k → Beside (wordsOf xs (reading xs)) (suc (reading xs .n)) k
+      → getD ys k 0 ≡ getD xs k 0
   pub reads : reading ys ≡ rebased (reading xs) base
-  pub back : (s : Moved) (zs : List ℕ) → MovesTo ys (reading xs .base) s zs → zs ≡ xs
+  pub set-first : ys ≡ movedImage (setImage xs s) base
+  pub move-first : ys ≡ setImage (movedImage xs base) s
+  pub empty : count s ≡ 0 → ys ≡ movedImage xs base
+  pub present : base ≡ reading xs .base → ys ≡ setImage xs s
+  pub back : count s ≡ 0 → (m : Moved) (zs : List ℕ) → Releases ys s (reading xs .base) m zs → (m .number ≡ 0) × (zs ≡ xs)
 
-abbrev pub Demand2-move : Type 0
-Demand2-move =
-    (xs : List ℕ) (base : ℕ) (r : Moved) (ys : List ℕ) → Bytes xs → reading xs .number ≡ 0 → Holds (legalBase (length xs) base)
-    → MovesTo xs base r ys
-    → Moved-right xs base r ys
+abbrev pub Demand2 : Type 0
+Demand2 =
+    (xs s : List ℕ) (base : ℕ) (r : Moved) (ys : List ℕ) → Bytes xs → Bytes s → Releases xs s base r ys → r .number ≡ 0
+    → Released-right xs s base r ys
 
--- ---- demand 2, a sheet that is accepted: each byte of its entries is its body's, no other byte is another, and the image reads as before
+-- ---- and a release is accepted exactly where the image reads, the sheet passes 15 to 17 for it, and the base is legal
 
-pub record Set-right (xs s ys : List ℕ) : Type 0 where
-  pub own : (i j : ℕ) → i < count s → j < size s i → getD ys (reading xs .c + offset s i + j) 0 ≡ getD s (bodyAt s i + j) 0
-  pub others : (k : ℕ) → Beside (fieldsOf (reading xs) s) (count s) k → getD ys k 0 ≡ getD xs k 0
-  pub reads : reading ys ≡ reading xs
-
-abbrev pub Demand2-sheet : Type 0
-Demand2-sheet = (xs s : List ℕ) (r : Applied) (ys : List ℕ) → Applies xs s r ys → r .number ≡ 0 → Set-right xs s ys
+abbrev pub Demand2-accepted : Type 0
+Demand2-accepted =
+    (xs s : List ℕ) (base : ℕ) (r : Moved) (ys : List ℕ) → Releases xs s base r ys
+    → (r .number ≡ 0 → Releasable xs s base) × (Releasable xs s base → r .number ≡ 0)
 
 -- ---- demand 3, an audit of a file of the vendor image's length that has a legal base: ks are the positions where it isn't the
 -- reference, each once and ascending, and no others; base and counts are true; with room the list has each of them, marked as a setting
@@ -102,40 +110,61 @@ Demand3 =
     (xs ys places : List ℕ) (a : Audited) (l : List ℕ) → Bytes xs → reading xs .number ≡ 0 → length ys ≡ length xs
     → Holds (legalBase (length xs) (shippedBase xs ys)) → Audits xs ys places a l → (ks : List ℕ) × Audited-right xs ys places a l ks
 
--- ---- explained is made: an accepted audit says "explained" exactly where one move and one sheet make the file, and names that move's base
+-- ---- explained means released: an accepted audit says "explained" exactly where one release, some sheet and some legal base, makes the
+-- file of the vendor image, and names that base
 
-abbrev pub Explained-made : Type 0
-Explained-made =
+abbrev pub Explained-released : Type 0
+Explained-released =
     (xs ys places : List ℕ) (a : Audited) (l : List ℕ) → Bytes xs → Bytes ys → a .number ≡ 0 → Audits xs ys places a l
     → (a .explained ≡ true → (s : List ℕ) × Makes xs ys (a .base) s) ×
     ((base : ℕ) (s : List ℕ) → Makes xs ys base s → (a .explained ≡ true) × (a .base ≡ base))
 
+-- ---- any chain of accepted releases is one release to its last base
+
+abbrev pub Chain-one : Type 0
+Chain-one = (xs zs : List ℕ) (base : ℕ) → Bytes xs → reading xs .number ≡ 0 → Made xs zs base → (s : List ℕ) × Makes xs zs base s
+
 -- ---- they hold
+
+sheet-numbered : (s : List ℕ) → (sheetReading s .number ≡ 0) ⊎ (sheetReading s .number ≡ 15)
+unfolding sheetReading run
+sheet-numbered s =
+    by-test (λ (r : SheetReading). (r .number ≡ 0) ⊎ (r .number ≡ 15)) (sheetFits s) _ _ (λ h. inl refl) (λ h. inr refl)
 
 pub demand-1 : Demand1
 demand-1 = (
   (λ xs r is. rw is (numbered xs)),
-  (λ xs base r ys is. rw (is .0, is .1) (move-numbered xs base, move-kept xs base)),
-  (λ xs s r ys is. rw (is .0, is .1) (apply-numbered xs s, apply-kept xs s)),
+  (λ s r is. rw is (sheet-numbered s)),
+  (λ xs s base r ys is. rw (is .0, is .1) (release-numbered xs s base, release-kept xs s base)),
   (λ xs offset size k is. rw is (lookup-numbered xs offset size)),
   (λ xs ys places a l is. rw (is .0, is .1) (audit-numbered xs ys (length places), list-kept xs ys places)),
   (λ xs ys bytes a l is. rw (is .0, is .1) (audit-numbered xs ys (length bytes / 4), bytes-kept xs ys bytes)),
 )
 
-pub demand-2-move : Demand2-move
-demand-2-move xs base r ys b ok legal (answer, image) =
+pub demand-2 : Demand2
+demand-2 xs s base r ys bx bs (answer, image) zero =
+    let ok : releasing xs s base .number ≡ 0 = sym (ap (λ (m : Moved). m .number) answer) ∙ zero in
     record {
-      answer = answer ∙ moving-accepted xs base ok legal .0;
-      words = rw image (moved-number xs b ok base legal);
-      others = rw image (unmoved-byte xs b ok base legal);
-      reads = rw image (moved-reads xs b ok base legal);
-      back = λ s zs back. back .1 ∙ rw image (there-and-back xs b ok base legal);
+      answer = answer ∙ release-accepted xs s base (release-shows xs s base ok);
+      entries = rw image (released-entry xs s base ok bx bs);
+      words = rw image (released-word xs s base ok bx bs);
+      apart = entry-beside xs s (released-fits xs s base ok);
+      others = rw image (released-other xs s base ok bx bs);
+      reads = rw image (released-reads xs s base ok bx bs);
+      set-first = image ∙ set-then-moved xs s base ok;
+      move-first = image ∙ moved-then-set xs s base ok bx bs;
+      empty = λ none. image ∙ empty-moves xs s base ok bx bs none;
+      present = λ same. image ∙ present-sets xs s base ok bx bs same;
+      back = λ none m zs is.
+          let (goes, home) = there-and-back xs s base bx bs none ok in
+          (ap (λ (q : Moved). q .number) (is .0) ∙ rw image goes, is .1 ∙ rw image home);
     }
 
-pub demand-2-sheet : Demand2-sheet
-demand-2-sheet xs s r ys (answer, image) zero =
-    let ok = sym (ap (λ (a : Applied). a .number) answer) ∙ zero in
-    record { own = rw image (set-byte xs s ok); others = rw image (unset-byte xs s ok); reads = rw image (applied-reads xs s ok) }
+pub demand-2-accepted : Demand2-accepted
+demand-2-accepted xs s base r ys (answer, image) = (
+  (λ zero. release-shows xs s base (sym (ap (λ (m : Moved). m .number) answer) ∙ zero)),
+  λ h. ap (λ (m : Moved). m .number) (answer ∙ release-accepted xs s base h),
+)
 
 pub demand-3 : Demand3
 demand-3 xs ys places a l b ok long legal (answer, list) =
@@ -160,8 +189,8 @@ demand-3 xs ys places a l b ok long legal (answer, list) =
       },
     )
 
-pub explained-made : Explained-made
-explained-made xs ys places a l bx by zero (answer, list) = (shown, said)
+pub explained-released : Explained-released
+explained-released xs ys places a l bx by zero (answer, list) = (shown, said)
   where
     ok : auditing xs ys (length places) .number ≡ 0
     ok = sym (ap (λ (q : Audited). q .number) answer) ∙ zero
@@ -177,5 +206,10 @@ explained-made xs ys places a l bx by zero (answer, list) = (shown, said)
 
     said : (base : ℕ) (s : List ℕ) → Makes xs ys base s → (a .explained ≡ true) × (a .base ≡ base)
     said base s m =
-        let made : Made xs ys base = rw (m .is) at (set (moved start base (m .moves)) s (m .bytes) (m .applies)) in
+        let made : Made xs ys base = rw (m .is) at (then start s base (m .bytes) (m .goes)) in
         rw answer (made-explained xs ys places base (passed .read) bx made (fits xs ys (length places) ok))
+
+pub chain-one : Chain-one
+chain-one xs zs base bx ok made =
+    let (bz, e) = made-explains xs ok bx made in
+    explains-made xs zs bx bz ok base e

@@ -20,10 +20,9 @@ use Rattle.image.specs.Reading.{reading}
 use Rattle.image.specs.After.{changed-so, kept-so}
 use Rattle.image.specs.Guarantee.{guaranteed}
 use Rattle.moving.specs.Moving.{movedImage}
-use Rattle.moving.specs.MovingLaws.{moving-accepted}
-use Rattle.moving.specs.Theorems.{length-after, moved-reads}
+use Rattle.steps.specs.MoveStep.{length-after, moved-reads}
 use Rattle.sheet.specs.PartLaws.{length-joined, joined-low, joined-mid, joined-high}
-use Rattle.sheet.specs.Applying.{joined}
+use Rattle.sheet.specs.Set.{joined}
 use Rattle.audit.specs.declared.Audited.{Audited}
 use Rattle.walk.specs.Differences.{agrees, differences, setting, entry, settings, strays, bits, entries}
 use Rattle.walk.specs.DifferenceLaws.{counts, length-entries}
@@ -335,8 +334,8 @@ module _ (xs ys : List ℕ) (bytes : Bytes xs) (ok : reading xs .number ≡ 0) w
   module _ (places : List ℕ) (long : length ys ≡ length xs) (legal : Holds (legalBase (length xs) (shippedBase xs ys)))
       (room : length (differing xs ys) ≤ length places) where
     reference-is : reference xs ys ≡ movedImage xs (shippedBase xs ys)
-    unfolding reference
-    reference-is = sym (moving-accepted xs (shippedBase xs ys) ok legal .1)
+    unfolding reference movedImage
+    reference-is = refl
 
     -- "explained" shows that the shipped file is the vendor image moved to its own base, but for setting bytes
     pub explained-shows : auditing xs ys (length places) .explained ≡ true → Explains xs ys (shippedBase xs ys)

@@ -9,7 +9,7 @@ use Rattle.facts.specs.Fact.{Holds}
 use Rattle.header.specs.Base.{legalBase}
 use Rattle.image.specs.Reading.{reading}
 use Rattle.moving.specs.Moving.{movedImage}
-use Rattle.sheet.specs.Applying.{joined}
+use Rattle.sheet.specs.Set.{joined}
 
 -- this legal base and these setting bytes, c+32..c+z-1, turn xs into ys
 pub record Turns (xs ys : List ℕ) (base : ℕ) (part : List ℕ) : Type 0 where

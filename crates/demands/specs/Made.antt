@@ -1,4 +1,4 @@
--- What the library makes of the vendor image by accepted moves and sheets, in any order: the vendor image moved to the last base, but for
+-- What the library makes of the vendor image by accepted releases, one after the other: the vendor image moved to the last base, but for
 -- the settings part.
 -- Assumes nothing.
 use mathlib.Core.Path.{_≡_, refl, sym, ap, _∙_}
@@ -20,12 +20,12 @@ use Rattle.image.specs.Guarantee.{guaranteed}
 use Rattle.image.specs.FrameBelow.{frame-below}
 use Rattle.moving.specs.Moves.{difference, Beside}
 use Rattle.moving.specs.MovesLaws.{find}
-use Rattle.moving.specs.Moving.{wordsAt, wordsOf, moving, movedImage}
-use Rattle.moving.specs.MovingLaws.{moving-shows}
-use Rattle.moving.specs.Theorems.{unmoved-byte, moved-number, length-after, bytes-after, moved-reads, moved-on, moved-nowhere}
-use Rattle.sheet.specs.Applying.{applying, appliedImage}
-use Rattle.sheet.specs.ApplyingLaws.{set-outside, applying-shows}
-use Rattle.sheet.specs.Theorems.{length-applied, bytes-applied}
+use Rattle.moving.specs.Moving.{wordsAt, wordsOf, movedImage}
+use Rattle.sheet.specs.Set.{setImage, Fits}
+use Rattle.steps.specs.MoveStep.{unmoved-byte, moved-number, length-after, bytes-after, moved-reads, moved-on, moved-nowhere}
+use Rattle.steps.specs.SetStep.{kept-outside, length-after-set, bytes-after-set}
+use Rattle.release.specs.Release.{releasing, releasedImage}
+use Rattle.released.specs.Theorems.{released-fits, released-legal, set-then-moved, bytes-released}
 use Rattle.demands.specs.Explains.{Explains}
 
 -- the byte at k lies outside the settings part
@@ -130,28 +130,37 @@ module _ (xs : List ℕ) (ok : reading xs .number ≡ 0) (bytes : Bytes xs) wher
     explained-reads = reads-alike (movedImage xs base) zs fine long same ∙ reads
 
     -- an image that was explained is so after a move, by the new base
-    pub explains-moved : (next : ℕ) → moving zs next .number ≡ 0 → Explains xs (movedImage zs next) next
+    explains-moved : (next : ℕ) → Holds (legalBase (length zs) next) → Explains xs (movedImage zs next) next
     explains-moved next goes =
-        let shown = moving-shows zs next goes in
-        let legal : Holds (legalBase (length xs) next) = rw (e .long) at (shown .1) in
-        let legal′ : Holds (legalBase (length (movedImage xs base)) next) = rw (length-after xs bytes ok base (e .legal)) legal in
+        let read : reading zs .number ≡ 0 = ap (λ (r : Reading). r .number) explained-reads ∙ ok in
+        let fine-base : Holds (legalBase (length xs) next) = rw (e .long) at goes in
+        let fine-base′ : Holds (legalBase (length (movedImage xs base)) next) = rw (length-after xs bytes ok base (e .legal)) fine-base in
         record {
-          legal = legal;
-          long = length-after zs bz (shown .0) next (shown .1) ∙ e .long;
+          legal = fine-base;
+          long = length-after zs bz read next goes ∙ e .long;
           same = λ k out.
-              moves-alike (movedImage xs base) zs fine long same (bytes-after xs bytes ok base (e .legal)) bz next legal′ k (rw reads out)
-              ∙ ap (λ (l : List ℕ). getD l k 0) (moved-on xs bytes ok base (e .legal) next legal);
+              moves-alike (movedImage xs base) zs fine long same (bytes-after xs bytes ok base (e .legal)) bz next fine-base′ k (rw reads out)
+              ∙ ap (λ (l : List ℕ). getD l k 0) (moved-on xs bytes ok base (e .legal) next fine-base);
         }
 
-    -- and after a sheet, by the same base
-    pub explains-applied : (s : List ℕ) → applying zs s .number ≡ 0 → Explains xs (appliedImage zs s) base
-    explains-applied s goes =
-        let (read, sound, names, after) = applying-shows zs s goes in
+    -- and once a sheet's bytes are set, by the same base
+    explains-set : (s : List ℕ) → Fits zs s → Explains xs (setImage zs s) base
+    explains-set s fit =
         record {
           legal = e .legal;
-          long = length-applied zs s goes ∙ e .long;
-          same = λ k out. rw after (set-outside zs (reading zs) s (guaranteed zs read) sound k (rw explained-reads out)) ∙ e .same k out;
+          long = length-after-set zs s fit ∙ e .long;
+          same = λ k out. kept-outside zs s fit k (rw explained-reads out) ∙ e .same k out;
         }
+
+  -- so it is after a release, by the new base
+  pub explains-released : (zs : List ℕ) (base : ℕ) → Bytes zs → Explains xs zs base → (s : List ℕ) (next : ℕ) → Bytes s
+      → releasing zs s next .number ≡ 0
+      → Explains xs (releasedImage zs s next) next
+  explains-released zs base bz e s next bs goes =
+      let fit = released-fits zs s next goes in
+      rw (set-then-moved zs s next goes)
+      (explains-moved (setImage zs s) base (bytes-after-set zs s fit bz bs) (explains-set zs base bz e s fit) next
+      (rw (length-after-set zs s fit) (released-legal zs s next goes)))
 
   -- the vendor image is explained by its own base
   pub explains-start : Explains xs xs (reading xs .base)
@@ -163,20 +172,16 @@ module _ (xs : List ℕ) (ok : reading xs .number ≡ 0) (bytes : Bytes xs) wher
         same = λ k out. ap (λ (l : List ℕ). getD l k 0) (sym (moved-nowhere xs bytes ok));
       }
 
--- what the library makes of xs by accepted moves and sheets in any order, and its last base
+-- what a chain of accepted releases makes of xs, and its last base
 pub data Made (xs : List ℕ) : List ℕ → ℕ → Type 0 where
   start : Made xs xs (reading xs .base)
-  moved : {zs : List ℕ} {base : ℕ} → Made xs zs base → (next : ℕ) → moving zs next .number ≡ 0 → Made xs (movedImage zs next) next
-  set : {zs : List ℕ} {base : ℕ} → Made xs zs base → (s : List ℕ) → Bytes s → applying zs s .number ≡ 0 → Made xs (appliedImage zs s) base
+  then : {zs : List ℕ} {base : ℕ} → Made xs zs base → (s : List ℕ) (next : ℕ) → Bytes s → releasing zs s next .number ≡ 0
+      → Made xs (releasedImage zs s next) next
 
 -- all of it is explained by that base
 pub made-explains : (xs : List ℕ) → reading xs .number ≡ 0 → Bytes xs → {zs : List ℕ} {base : ℕ} → Made xs zs base
     → Bytes zs × Explains xs zs base
 made-explains xs ok bytes start = (bytes, explains-start xs ok bytes)
-made-explains xs ok bytes (moved {zs} {base} m next goes) =
+made-explains xs ok bytes (then {zs} {base} m s next bs goes) =
     let (bz, e) = made-explains xs ok bytes m in
-    let shown = moving-shows zs next goes in
-    (bytes-after zs bz (shown .0) next (shown .1), explains-moved xs ok bytes zs base bz e next goes)
-made-explains xs ok bytes (set {zs} {base} m s bs goes) =
-    let (bz, e) = made-explains xs ok bytes m in
-    (bytes-applied zs s goes bz bs, explains-applied xs ok bytes zs base bz e s goes)
+    (bytes-released zs s next goes bz bs, explains-released xs ok bytes zs base bz e s next bs goes)

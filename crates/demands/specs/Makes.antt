@@ -1,4 +1,4 @@
--- What is explained can be made: one move to the base, and one sheet, turn the vendor image into the shipped file.
+-- What is explained can be made: one release, some sheet and the base, turns the vendor image into the shipped file.
 -- Assumes nothing.
 use Prim.Native.Nat.{ℕ, _+_, _-_, _*_, _^_, _≤_, _<_}
 use mathlib.Core.List.{List, []}
@@ -16,32 +16,23 @@ use Rattle.image.specs.declared.Identity.{Identity}
 use Rattle.image.specs.declared.Reading.{Reading}
 use Rattle.image.specs.Reading.{identityAt, rebased, reading}
 use Rattle.image.specs.Guarantee.{Guaranteed, guaranteed}
-use Rattle.moving.specs.declared.Moved.{Moved}
-use Rattle.moving.specs.Moving.{moving, movedImage}
-use Rattle.moving.specs.MovingLaws.{moving-accepted}
-use Rattle.moving.specs.Theorems.{length-after, moved-reads}
-use Rattle.sheet.specs.declared.Applied.{Applied}
+use Rattle.moving.specs.Moving.{movedImage}
 use Rattle.sheet.specs.Sheet.{sheetIdentity, count, offset, size, bodyAt, sameIdentity, Sound}
-use Rattle.sheet.specs.Applying.{setBy, applied, applying, appliedImage}
-use Rattle.sheet.specs.ApplyingLaws.{length-set-by, set-outside, set-in, sound-sheet, applying-accepted}
-use Rattle.sheet.specs.Theorems.{applied-empty}
+use Rattle.sheet.specs.Set.{setImage, Fits}
+use Rattle.steps.specs.MoveStep.{length-after, moved-reads}
+use Rattle.steps.specs.SetStep.{length-after-set, kept-outside, set-byte, set-empty}
+use Rattle.steps.specs.TwoSteps.{fits-moved}
+use Rattle.release.specs.Release.{releasing, releasedImage}
+use Rattle.release.specs.ReleaseLaws.{release-goes}
+use Rattle.released.specs.Theorems.{moved-then-set}
 use Rattle.demands.specs.Explains.{Explains}
 use Rattle.demands.specs.Sheets.{whole, whole-names, whole-count, whole-byte, whole-offset, whole-size, whole-sound, whole-bytes, bare, bare-names, bare-count, bare-sound, bare-bytes}
 
--- s, applied to the vendor image moved to this base, makes ys
+-- the release of xs with this sheet to this base is accepted, and makes ys
 pub record Makes (xs ys : List ℕ) (base : ℕ) (s : List ℕ) : Type 0 where
   pub bytes : Bytes s
-  pub moves : moving xs base .number ≡ 0
-  pub applies : applying (movedImage xs base) s .number ≡ 0
-  pub is : appliedImage (movedImage xs base) s ≡ ys
-
--- a sound sheet that names the image is accepted
-takes : (ms s : List ℕ) → reading ms .number ≡ 0 → Sound s (reading ms .z) → Holds (sameIdentity (sheetIdentity s) (reading ms .identity))
-    → (applying ms s .number ≡ 0) × (appliedImage ms s ≡ setBy ms (reading ms) s)
-takes ms s ok sound names =
-    let judged = ap (λ (a : Applied). a .number) (sound-sheet (reading ms .identity) (reading ms .z) s sound names) in
-    let law = applying-accepted ms s ok judged in
-    (ap (λ (a : Applied). a .number) (law .0), law .1)
+  pub goes : releasing xs s base .number ≡ 0
+  pub is : releasedImage xs s base ≡ ys
 
 module _ (xs ys : List ℕ) (bx : Bytes xs) (by : Bytes ys) (ok : reading xs .number ≡ 0) (base : ℕ) (e : Explains xs ys base) where
   abbrev ms : List ℕ
@@ -55,9 +46,6 @@ module _ (xs ys : List ℕ) (bx : Bytes xs) (by : Bytes ys) (ok : reading xs .nu
 
   long : length ys ≡ length ms
   long = e .long ∙ sym (length-after xs bx ok base (e .legal))
-
-  goes : moving xs base .number ≡ 0
-  goes = ap (λ (m : Moved). m .number) (moving-accepted xs base ok (e .legal) .0)
 
   image : reading xs .identity .image < 256 ^ 8
   unfolding identityAt
@@ -77,9 +65,11 @@ module _ (xs ys : List ℕ) (bx : Bytes xs) (by : Bytes ys) (ok : reading xs .nu
       let i = ap (λ (k : Identity). k .extended) (guaranteed xs ok .identity-is) in
       omega (arith, extended-small xs (reading xs .H) bx)
 
-  names-it : (s : List ℕ) → Holds (sameIdentity (sheetIdentity s) (reading xs .identity))
-      → Holds (sameIdentity (sheetIdentity s) (reading ms .identity))
-  names-it s h = rw reads h
+  -- where setting the bytes of a sheet that fits in the moved image makes ys, the release with it does
+  made-by : (s : List ℕ) → Bytes s → Fits xs s → setImage ms s ≡ ys → Makes xs ys base s
+  made-by s bs fit is =
+      let ok′ = release-goes xs s base (fit, e .legal) in
+      record { bytes = bs; goes = ok′; is = moved-then-set xs s base ok′ bx bs ∙ is }
 
   -- the shipped file's own settings part
   abbrev part : List ℕ
@@ -110,22 +100,25 @@ module _ (xs ys : List ℕ) (bx : Bytes xs) (by : Bytes ys) (ok : reading xs .nu
     sound : Sound s (reading xs .z)
     sound = whole-sound (reading xs .identity) part image revision extended (reading xs .z) some (omega (arith, guaranteed xs ok)) part-long
 
-    taken : (applying ms s .number ≡ 0) × (appliedImage ms s ≡ setBy ms (reading ms) s)
-    taken = takes ms s fine (rw reads sound) (names-it s (whole-names (reading xs .identity) part image revision extended))
+    fit : Fits xs s
+    fit = record { read = ok; sound = sound; names = whole-names (reading xs .identity) part image revision extended }
 
-    outside : (k : ℕ) → (k < reading xs .c + 32) ⊎ (reading xs .c + reading xs .z ≤ k) → getD (setBy ms (reading ms) s) k 0 ≡ getD ys k 0
-    outside k out = set-outside ms (reading ms) s (guaranteed ms fine) (rw reads sound) k (rw reads out) ∙ sym (e .same k out)
+    after : Fits ms s
+    after = fits-moved xs s base bx fit (e .legal)
+
+    outside : (k : ℕ) → (k < reading xs .c + 32) ⊎ (reading xs .c + reading xs .z ≤ k) → getD (setImage ms s) k 0 ≡ getD ys k 0
+    outside k out = kept-outside ms s after k (rw reads out) ∙ sym (e .same k out)
 
     inside : (j : ℕ) → j < reading xs .z - 32
-        → getD (setBy ms (reading ms) s) (reading xs .c + 32 + j) 0 ≡ getD ys (reading xs .c + 32 + j) 0
+        → getD (setImage ms s) (reading xs .c + 32 + j) 0 ≡ getD ys (reading xs .c + 32 + j) 0
     unfolding bodyAt
     inside j h =
         let n = whole-count (reading xs .identity) part image revision extended in
         let most : reading xs .z ≤ 65536 = omega (arith, guaranteed xs ok) in
         let at = whole-offset (reading xs .identity) part image revision extended (reading xs .z) some most part-long in
         let wide = whole-size (reading xs .identity) part image revision extended (reading xs .z) some most part-long in
-        let set : getD (setBy ms (reading ms) s) (reading ms .c + offset s 0 + j) 0 ≡ getD s (bodyAt s 0 + j) 0 =
-        set-in ms (reading ms) s (guaranteed ms fine) (rw reads sound) 0 j (omega arith) (omega arith) in
+        let set : getD (setImage ms s) (reading ms .c + offset s 0 + j) 0 ≡ getD s (bodyAt s 0 + j) 0 =
+        set-byte ms s after 0 j (omega arith) (omega arith) in
         let from : bodyAt s 0 + j ≡ 24 + j = omega arith in
         let region : reading ms .c ≡ reading xs .c = ap (λ (r : Reading). r .c) reads in
         let to : reading ms .c + offset s 0 + j ≡ reading xs .c + 32 + j = omega arith in
@@ -133,15 +126,10 @@ module _ (xs ys : List ℕ) (bx : Bytes xs) (by : Bytes ys) (ok : reading xs .nu
 
     one-sheet : Makes xs ys base s
     one-sheet =
-        record {
-          bytes = whole-bytes (reading xs .identity) part part-bytes;
-          moves = goes;
-          applies = taken .0;
-          is = taken .1 ∙ ext-getD 0 (setBy ms (reading ms) s) ys
-              (length-set-by ms (reading ms) s (guaranteed ms fine) (rw reads sound) ∙ sym long) (λ k h. byte k);
-        }
+        made-by s (whole-bytes (reading xs .identity) part part-bytes) fit
+        (ext-getD 0 (setImage ms s) ys (length-after-set ms s after ∙ sym long) (λ k h. byte k))
       where
-        byte : (k : ℕ) → getD (setBy ms (reading ms) s) k 0 ≡ getD ys k 0
+        byte : (k : ℕ) → getD (setImage ms s) k 0 ≡ getD ys k 0
         byte k =
             elim (decLt k (reading xs .c + 32)) [
               | yes low ↦ outside k (inl low)
@@ -161,20 +149,19 @@ module _ (xs ys : List ℕ) (bx : Bytes xs) (by : Bytes ys) (ok : reading xs .nu
     abbrev empty : List ℕ
     empty = bare (reading xs .identity) []
 
-    accepted : (applying ms empty .number ≡ 0) × (appliedImage ms empty ≡ setBy ms (reading ms) empty)
-    accepted =
-        takes ms empty fine (bare-sound (reading xs .identity) [] image revision extended (reading ms .z))
-        (names-it empty (bare-names (reading xs .identity) [] image revision extended))
+    fitting : Fits xs empty
+    fitting =
+        record {
+          read = ok;
+          sound = bare-sound (reading xs .identity) [] image revision extended (reading xs .z);
+          names = bare-names (reading xs .identity) [] image revision extended;
+        }
 
     no-sheet : Makes xs ys base empty
     no-sheet =
-        record {
-          bytes = bare-bytes (reading xs .identity) [];
-          moves = goes;
-          applies = accepted .0;
-          is = applied-empty ms empty (accepted .0) (bare-count (reading xs .identity) [] image revision extended)
-              ∙ ext-getD 0 ms ys (sym long) (λ k h. sym (e .same k (either k)));
-        }
+        made-by empty (bare-bytes (reading xs .identity) []) fitting
+        (set-empty ms empty (fits-moved xs empty base bx fitting (e .legal)) (bare-count (reading xs .identity) [] image revision extended)
+        ∙ ext-getD 0 ms ys (sym long) (λ k h. sym (e .same k (either k))))
       where
         either : (k : ℕ) → (k < reading xs .c + 32) ⊎ (reading xs .c + reading xs .z ≤ k)
         either k = elim (decLt k (reading xs .c + 32)) [ yes h ↦ inl h | no h ↦ inr (omega arith) ]

@@ -1,5 +1,5 @@
--- The demands speak of something: the small image meets their premises, and what they say of it is computed (`Small` in `moving`,
--- `sheet` and `audit`).
+-- The demands speak of something: the small image meets their premises, and what they say of it is computed (`Small` in `released` and
+-- `audit`).
 -- Assumes nothing.
 use Prim.Native.Nat.{ℕ, zero, suc, _+_, _<_}
 use mathlib.Core.Bool.{Bool, true, _&&_}
@@ -18,11 +18,11 @@ use Rattle.header.specs.Base.{legalBase}
 use Rattle.image.specs.declared.Reading.{Reading}
 use Rattle.image.specs.Reading.{reading}
 use Rattle.image.specs.Small.{small, settingBytes, small-reads}
-use Rattle.moving.specs.Moving.{moving, movedImage, MovesTo}
-use Rattle.moving.specs.Small.{small-moved, small-move}
-use Rattle.sheet.specs.Applying.{applying, appliedImage}
-use Rattle.sheet.specs.Small.{sample, small-set, small-applied}
-use Rattle.sheet.specs.declared.Applied.{Applied}
+use Rattle.moving.specs.declared.Moved.{Moved}
+use Rattle.sheet.specs.Small.{sample}
+use Rattle.release.specs.Release.{releasing, releasedImage}
+use Rattle.released.specs.Small.{small-release, small-released}
+use Rattle.demands.specs.Made.{Made, start, then}
 use Rattle.audit.specs.Audit.{shippedBase}
 use Rattle.audit.specs.Small.{shipped}
 
@@ -47,27 +47,26 @@ maker-bytes = bytes-so maker refl
 pub maker-reads : reading maker .number ≡ 0
 maker-reads = ap (λ (r : Reading). r .number) small-reads
 
--- a base to which it can be moved
-pub maker-legal : Holds (legalBase (length maker) 0x00100000)
-unfolding small number zeros
-maker-legal = (refl, omega arith)
+-- a sheet and a base with which it can be released
+pub sample-bytes : Bytes sample
+unfolding sample number digit
+sample-bytes = bytes-so sample refl
 
--- the move changes it
-pub maker-moves : movedImage maker 0x00100000 ≡ maker → ⊥
+pub maker-goes : releasing maker sample 0x00100000 .number ≡ 0
+maker-goes = ap (λ (m : Moved). m .number) small-release
+
+-- the release sets, and it moves
+pub maker-sets : getD (releasedImage maker sample 0x00100000) 228 0 ≡ getD maker 228 0 → ⊥
 unfolding small number zeros digit
-maker-moves same =
-    let e : _≡_ {A = ℕ} 0x10 0xF8 = ap (λ (l : List ℕ). getD l 130 0) (sym small-moved ∙ same) in
-    omega arith
+maker-sets same = let e : _≡_ {A = ℕ} 1 0 = sym (ap (λ (l : List ℕ). getD l 228 0) small-released) ∙ same in omega arith
 
--- a sheet that it takes, and that changes it
-pub maker-takes : applying maker sample .number ≡ 0
-maker-takes = ap (λ (a : Applied). a .number) small-applied
-
-pub maker-sets : appliedImage maker sample ≡ maker → ⊥
+pub maker-moves : getD (releasedImage maker sample 0x00100000) 130 0 ≡ getD maker 130 0 → ⊥
 unfolding small number zeros digit
-maker-sets same =
-    let e : _≡_ {A = ℕ} 1 0 = ap (λ (l : List ℕ). getD l 228 0) (sym small-set ∙ same) in
-    omega arith
+maker-moves same = let e : _≡_ {A = ℕ} 0x10 0xF8 = sym (ap (λ (l : List ℕ). getD l 130 0) small-released) ∙ same in omega arith
+
+-- a chain of one
+pub maker-chain : Made maker (small 0x00100000 0x00100040 (settingBytes 1 0)) 0x00100000
+maker-chain = rw small-released at (then start sample 0x00100000 sample-bytes maker-goes)
 
 -- a shipped file of its length with a legal base
 pub shipped-long : length shipped ≡ length maker

@@ -16,13 +16,11 @@ use Rattle.image.specs.declared.Reading.{Reading}
 use Rattle.image.specs.Reading.{refusal, entriesAt, reading, Reads}
 use Rattle.image.specs.Guarantee.{guaranteed}
 use Rattle.moving.specs.declared.Moved.{Moved}
-use Rattle.moving.specs.Moving.{refusedMove, MovesTo}
-use Rattle.moving.specs.MovingLaws.{moving-unread, moving-shows}
-use Rattle.sheet.specs.declared.Applied.{Applied}
-use Rattle.sheet.specs.Applying.{applied, Applies}
-use Rattle.sheet.specs.ApplyingLaws.{applying-unread, applying-shows}
-use Rattle.sheet.specs.Setting.{NumberOf}
-use Rattle.sheet.specs.SettingLaws.{setting-unread, setting-passed}
+use Rattle.moving.specs.Moving.{refusedMove}
+use Rattle.release.specs.Release.{releasing, Releases}
+use Rattle.release.specs.ReleaseLaws.{release-kept, release-unread, release-shows}
+use Rattle.lookup.specs.Setting.{NumberOf}
+use Rattle.lookup.specs.SettingLaws.{setting-unread, setting-passed}
 use Rattle.audit.specs.declared.Audited.{Audited}
 use Rattle.audit.specs.Audit.{refusedAudit, auditing, Audits, AuditsBytes}
 use Rattle.audit.specs.AuditLaws.{audit-unread, audit-accepted, list-kept, bytes-kept}
@@ -36,8 +34,7 @@ Unreserved xs = let r = reading xs in (i : ℕ) → i < r .n → Holds (reserved
 abbrev pub Accepts-unreserved : Type 0
 Accepts-unreserved =
     ((xs : List ℕ) (r : Reading) → Reads xs r → r .number ≡ 0 → Unreserved xs)
-    × ((xs : List ℕ) (base : ℕ) (r : Moved) (ys : List ℕ) → MovesTo xs base r ys → r .number ≡ 0 → Unreserved xs)
-    × ((xs s : List ℕ) (r : Applied) (ys : List ℕ) → Applies xs s r ys → r .number ≡ 0 → Unreserved xs)
+    × ((xs s : List ℕ) (base : ℕ) (r : Moved) (ys : List ℕ) → Releases xs s base r ys → r .number ≡ 0 → Unreserved xs)
     × ((xs : List ℕ) (offset size k : ℕ) → NumberOf xs offset size k → k ≡ 0 → Unreserved xs)
     × ((xs ys places : List ℕ) (a : Audited) (l : List ℕ) → Audits xs ys places a l → a .number ≡ 0 → Unreserved xs)
     × ((xs ys bytes : List ℕ) (a : Audited) (l : List ℕ) → AuditsBytes xs ys bytes a l → a .number ≡ 0 → Unreserved xs)
@@ -47,8 +44,7 @@ Accepts-unreserved =
 abbrev pub Refuses-reserved : Type 0
 Refuses-reserved =
     (xs : List ℕ) (i : ℕ) → reading xs ≡ refusal 22 i
-    → ((base : ℕ) (r : Moved) (ys : List ℕ) → MovesTo xs base r ys → (r ≡ refusedMove 22 i) × (ys ≡ xs))
-    × ((s : List ℕ) (r : Applied) (ys : List ℕ) → Applies xs s r ys → (r ≡ applied 22 i) × (ys ≡ xs))
+    → ((s : List ℕ) (base : ℕ) (r : Moved) (ys : List ℕ) → Releases xs s base r ys → (r ≡ refusedMove 22 i) × (ys ≡ xs))
     × ((offset size k : ℕ) → NumberOf xs offset size k → k ≡ 22)
     × ((ys places : List ℕ) (a : Audited) (l : List ℕ) → Audits xs ys places a l → (a ≡ refusedAudit 22 i) × (l ≡ places))
     × ((ys bytes : List ℕ) (a : Audited) (l : List ℕ) → AuditsBytes xs ys bytes a l → (a ≡ refusedAudit 22 i) × (l ≡ bytes))
@@ -64,8 +60,7 @@ unreserved xs ok i h =
 pub accepts-unreserved : Accepts-unreserved
 accepts-unreserved = (
   (λ xs r is ok. unreserved xs (sym (ap (λ (q : Reading). q .number) is) ∙ ok)),
-  (λ xs base r ys is ok. unreserved xs (moving-shows xs base (sym (ap (λ (q : Moved). q .number) (is .0)) ∙ ok) .0)),
-  (λ xs s r ys is ok. unreserved xs (applying-shows xs s (sym (ap (λ (q : Applied). q .number) (is .0)) ∙ ok) .0)),
+  (λ xs s base r ys is ok. unreserved xs (release-shows xs s base (sym (ap (λ (q : Moved). q .number) (is .0)) ∙ ok) .0 .read)),
   (λ xs offset size k is ok. unreserved xs (setting-passed xs offset size (sym is ∙ ok) .0)),
   (λ xs ys places a l is ok.
       unreserved xs (audit-accepted xs ys (length places) (sym (ap (λ (q : Audited). q .number) (is .0)) ∙ ok) .read)),
@@ -75,8 +70,7 @@ accepts-unreserved = (
 
 pub refuses-reserved : Refuses-reserved
 refuses-reserved xs i e = (
-  (λ base r ys is. rw (is .0, is .1, moving-unread xs base unread .1) (rw e at (moving-unread xs base unread .0), refl)),
-  (λ s r ys is. rw (is .0, is .1, applying-unread xs s unread .1) (rw e at (applying-unread xs s unread .0), refl)),
+  (λ s base r ys is. let n = released s base in (is .0 ∙ n, is .1 ∙ release-kept xs s base (unaccepted s base))),
   (λ offset size k is. is ∙ setting-unread xs offset size unread .0 ∙ ap (λ (r : Reading). r .number) e),
   (λ ys places a l is. let n = of ys (length places) in (is .0 ∙ n, is .1 ∙ list-kept xs ys places (none ys (length places)))),
   (λ ys bytes a l is. let n = of ys (length bytes / 4) in (is .0 ∙ n, is .1 ∙ bytes-kept xs ys bytes (none ys (length bytes / 4)))),
@@ -84,6 +78,12 @@ refuses-reserved xs i e = (
   where
     unread : reading xs .number ≡ 0 → ⊥
     unread z = let k : _≡_ {A = ℕ} 22 0 = sym (ap (λ (r : Reading). r .number) e) ∙ z in omega arith
+
+    released : (s : List ℕ) (base : ℕ) → releasing xs s base ≡ refusedMove 22 i
+    released s base = rw e at (release-unread xs s base unread)
+
+    unaccepted : (s : List ℕ) (base : ℕ) → releasing xs s base .number ≡ 0 → ⊥
+    unaccepted s base z = let k : _≡_ {A = ℕ} 22 0 = sym (ap (λ (m : Moved). m .number) (released s base)) ∙ z in omega arith
 
     of : (ys : List ℕ) (room : ℕ) → auditing xs ys room ≡ refusedAudit 22 i
     of ys room = rw e at (audit-unread xs ys room unread)

@@ -2,5 +2,4 @@ pub mod Moves
 pub mod MovesLaws
 pub mod Moving
 pub mod MovingLaws
-pub mod Theorems
 pub mod Small

@@ -1,15 +1,11 @@
--- Document 01, "Moving".
+-- Document 01, "Moving": what is added to which words, and the answer.
 -- Assumes nothing.
 use Prim.Native.Nat.{ℕ, zero, suc, _+_}
 use mathlib.Core.List.{List}
 use mathlib.Core.Path.{_≡_}
 use lib.IntN.{ℤ, pos, _-ℤ_, natAbs}
-use lib.ListN.{length}
-use Rattle.facts.specs.Rules.{Rules, answer, rule}
-use Rattle.header.specs.Base.{legalBase}
 use Rattle.image.specs.declared.Reading.{Reading}
 use Rattle.image.specs.Reading.{wordAt, reading}
-use Rattle.image.specs.After.{afterReading, unlessRefused}
 use Rattle.moving.specs.declared.Moved.{Moved}
 use Rattle.moving.specs.Moves.{Words, difference, moved}
 
@@ -33,17 +29,9 @@ refusedMove number index = record { number = number; index = index; distance = p
 abbrev pub acceptedMove : Reading → ℕ → Moved
 acceptedMove r base = record { number = 0; index = 0; distance = pos base -ℤ pos (r .base) }
 
--- the reading's refusals, then 18 NEWBASE: the new base is legal too
-unfoldable pub moving : List ℕ → ℕ → Moved
-moving xs base = afterReading refusedMove (reading xs) (rule 18 (legalBase (length xs) base) (answer (acceptedMove (reading xs) base)))
-
--- the image afterwards: moved, or what it was where the move is refused
+-- an image that reads, at this base
 unfoldable pub movedImage : List ℕ → ℕ → List ℕ
-movedImage xs base = unlessRefused (moving xs base .number) (moveTo xs (reading xs) base) xs
-
--- the promise of `move_image`: the answer, and the image afterwards
-abbrev pub MovesTo : List ℕ → ℕ → Moved → List ℕ → Type 0
-MovesTo xs base r ys = (r ≡ moving xs base) × (ys ≡ movedImage xs base)
+movedImage xs base = moveTo xs (reading xs) base
 
 -- the promise of `magnitude`: how far a move goes, whichever way
 abbrev pub Magnitude : ℤ → ℕ → Type 0

@@ -1,4 +1,4 @@
-// Document 01, "Moving".
+// Document 01, "Moving": the words of a move, and how far it goes. The release calls these.
 use image::Reading;
 ghost use mathlib.Core.Path.{_≡_};
 ghost use Prim.Native.Nat.{_+_, _*_, _^_, _≤_, _<_};
@@ -6,16 +6,17 @@ ghost use lib.IntN.{pos, _-ℤ_};
 ghost use lib.ListN.{length};
 ghost use Rattle.image.specs.Guarantee.{Guaranteed};
 ghost use Rattle.moving.specs.Moves.{difference, moved};
-ghost use Rattle.moving.specs.Moving.{wordsAt, wordsOf, refusedMove, MovesTo, Magnitude};
+ghost use Rattle.moving.specs.Moving.{wordsAt, wordsOf, moveTo, refusedMove, acceptedMove, Magnitude};
 
-// The answer of a move: number 0 and the move, new base minus old; or the refusal's number and index.
+// The answer of a release: number 0 and the move, new base minus old; or the refusal's number and index.
 pub struct Moved {
     pub number: u32,
     pub index: usize,
     pub distance: i64,
 }
 
-fn refused(number: u32, index: usize) -> Moved
+// A refusal.
+pub fn refused(number: u32, index: usize) -> Moved
     ensures { λ r. ⌜ r ≡ refusedMove number index ⌝ }
 {
     Moved {
@@ -57,6 +58,18 @@ fn distance(old: u64, new: u64) -> i64
     new as i64 - old as i64
 }
 
+// The answer where an image that reads so goes to a base.
+pub fn accepted(r: Reading, base: u64) -> Moved
+    requires { ⌜ (r .base ≤ 2 ^ 32) × (base ≤ 2 ^ 32) ⌝ }
+    ensures { λ m. ⌜ m ≡ acceptedMove r base ⌝ }
+{
+    Moved {
+        number: 0,
+        index: 0,
+        distance: distance(r.base, base),
+    }
+}
+
 // How far a move goes, up or down.
 pub fn magnitude(distance: i64) -> u64
     ensures { λ r. ⌜ Magnitude distance r ⌝ }
@@ -75,21 +88,10 @@ pub fn modular_difference(old: u64, new: u64) -> u32
     std::num::wrapping_sub_u32(new as u32, old as u32)
 }
 
-// Moves an image to a base, whatever both are, or refuses and changes nothing.
-pub fn move_image(image: &mut [u8], base: u64) -> Moved
-    ensures { λ r. ⌜ MovesTo (now (image .entry)) base r (now (image .exit)) ⌝ }
+// Moves an image that reads so to a base.
+pub fn move_to(image: &mut [u8], r: Reading, base: u64)
+    requires { ⌜ Guaranteed (now image) r × (base < 2 ^ 32) ⌝ }
+    ensures { λ _. ⌜ now (image .exit) ≡ moveTo (now (image .entry)) r base ⌝ }
 {
-    let r = image::read(image);
-    if r.number != 0 {
-        return refused(r.number, r.index);
-    }
-    if !header::legal(base, image.len()) {
-        return refused(18, 0);
-    }
     move_words(image, r, modular_difference(r.base, base));
-    Moved {
-        number: 0,
-        index: 0,
-        distance: distance(r.base, base),
-    }
 }

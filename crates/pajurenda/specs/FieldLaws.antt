@@ -13,7 +13,7 @@ use lib.IntN.{ℤ, pos, negsuc, _-ℤ_}
 use lib.Dec.{ltb, eqb}
 use lib.ListN.{length, getD}
 use Rattle.facts.specs.Fact.{Holds, test}
-use Rattle.facts.specs.Rules.{by-test, by-cond}
+use Rattle.facts.specs.Rules.{run, by-test, by-cond}
 use Rattle.words.specs.Le.{le, Bytes}
 use Rattle.words.specs.LeLaws.{le-lt}
 use Rattle.header.specs.Header.{extendedNumber}
@@ -25,19 +25,22 @@ use Rattle.image.specs.Reading.{identityAt, reading}
 use Rattle.image.specs.Guarantee.{guaranteed}
 use Rattle.image.specs.Numbers.{Numbered, numbered, after-every, index-small, refused-is}
 use Rattle.moving.specs.declared.Moved.{Moved}
-use Rattle.moving.specs.Moving.{refusedMove, moving}
-use Rattle.moving.specs.Theorems.{OwnMove, move-numbered}
-use Rattle.sheet.specs.Applying.{applying}
-use Rattle.sheet.specs.Setting.{settingNumber}
-use Rattle.sheet.specs.SettingLaws.{setting-passed}
-use Rattle.sheet.specs.Theorems.{OwnApply, apply-numbered, OwnLookup, lookup-numbered}
+use Rattle.moving.specs.Moving.{refusedMove}
+use Rattle.sheet.specs.declared.SheetReading.{SheetReading}
+use Rattle.sheet.specs.Sheet.{sheetFits}
+use Rattle.sheet.specs.ReadSheet.{sheetReading}
+use Rattle.lookup.specs.Setting.{settingNumber}
+use Rattle.lookup.specs.SettingLaws.{setting-passed}
+use Rattle.lookup.specs.Theorems.{OwnLookup, lookup-numbered}
+use Rattle.release.specs.Release.{releaseRules, releasing}
+use Rattle.released.specs.Theorems.{OwnRelease, release-numbered}
 use Rattle.walk.specs.Differences.{agrees, differences, setting, entry, settings, strays, flips, bits, entries}
 use Rattle.walk.specs.DifferenceLaws.{counts, few}
 use Rattle.walk.specs.FlipLaws.{flips-most}
 use Rattle.audit.specs.declared.Audited.{Audited}
 use Rattle.audit.specs.Audit.{reference, differing, refusedAudit, tally, auditing}
 use Rattle.audit.specs.AuditLaws.{OwnAudit, audit-numbered}
-use Rattle.answers.specs.Answers.{twos, readFields, moveFields, applyFields, finding, settingFields, auditFields}
+use Rattle.answers.specs.Answers.{twos, readFields, moveFields, sheetFields, finding, settingFields, auditFields}
 use Rattle.answers.specs.AnswerLaws.{found-refused, found-accepted}
 use Rattle.answers.specs.declared.Found.{Found}
 
@@ -97,7 +100,7 @@ read-accepted xs b ok =
 pub read-small : (xs : List ℕ) → Bytes xs → Small (readFields (reading xs))
 read-small xs b = elim (ℕ-discrete (reading xs .number) 0) [ yes ok ↦ read-accepted xs b ok | no h ↦ read-refused xs b h ]
 
--- ---- a move
+-- ---- a release
 
 twos-small : (a b : ℕ) → a < 2 ^ 64 → twos (pos a -ℤ pos b) < 2 ^ 64
 unfolding twos
@@ -108,21 +111,32 @@ twos-small a (suc b) h = go (ltb a (suc b))
     go true = omega arith
     go false = omega arith
 
-pub move-small : (xs : List ℕ) (base : ℕ) → Bytes xs → Small (moveFields (moving xs base))
-unfolding moving twos
-move-small xs base b =
-    let numbers = move-numbered xs base in
-    let far : twos (moving xs base .distance) < 2 ^ 64 =
+pub release-small : (xs s : List ℕ) (base : ℕ) → Bytes xs → Small (moveFields (releasing xs s base))
+unfolding releasing releaseRules twos
+release-small xs s base b =
+    let numbers = release-numbered xs s base in
+    let far : twos (releasing xs s base .distance) < 2 ^ 64 =
     after-every refusedMove (λ (m : Moved). twos (m .distance) < 2 ^ 64) xs _ (λ h. omega arith)
-    (λ ok. ((λ h. omega arith), λ h. twos-small base (reading xs .base) (omega (arith, h)))) in
-    (number-small xs OwnMove _ _ (λ k o. omega arith) numbers, (omega (arith, index-small xs OwnMove _ _ b numbers), (far, tt)))
+    (λ ok. (
+      (λ h. omega arith),
+      λ h. (
+        (λ h. omega arith),
+        λ h. ((λ h. omega arith), λ h. ((λ h. omega arith), λ legal. twos-small base (reading xs .base) (omega (arith, legal)))),
+      ),
+    )) in
+    (number-small xs OwnRelease _ _ (λ k o. omega arith) numbers, (omega (arith, index-small xs OwnRelease _ _ b numbers), (far, tt)))
 
--- ---- an apply
+-- ---- a sheet by itself
 
-pub apply-small : (xs s : List ℕ) → Bytes xs → Small (applyFields (applying xs s))
-apply-small xs s b =
-    let numbers = apply-numbered xs s in
-    (number-small xs OwnApply _ _ (λ k o. omega arith) numbers, (omega (arith, index-small xs OwnApply _ _ b numbers), tt))
+pub sheet-small : (s : List ℕ) → Bytes s → Small (sheetFields (sheetReading s))
+unfolding sheetReading run
+sheet-small s b =
+    by-test (λ (r : SheetReading). Small (sheetFields r)) (sheetFits s) _ _
+    (λ h. (
+      omega arith,
+      (omega (arith, le-lt 2 s 12 b), (omega (arith, le-lt 8 s 0 b), (omega (arith, le-lt 4 s 8 b), (omega (arith, le-lt 2 s 14 b), tt)))),
+    ))
+    (λ h. (omega arith, (omega arith, (omega arith, (omega arith, (omega arith, tt))))))
 
 -- ---- a lookup
 

@@ -5,27 +5,27 @@ use mathlib.Core.List.{List}
 use mathlib.Core.Path.{_≡_}
 use lib.ListN.{length}
 use Rattle.image.specs.Reading.{reading}
-use Rattle.moving.specs.Moving.{moving, movedImage}
-use Rattle.sheet.specs.Applying.{applying, appliedImage}
+use Rattle.sheet.specs.ReadSheet.{sheetReading}
+use Rattle.release.specs.Release.{releasing, releasedImage}
 use Rattle.audit.specs.Audit.{auditing, listedBytes}
 use Rattle.handoff.specs.Step.{stepped}
 use Rattle.handoffs.specs.Blocks.{blocks, counted}
 use Rattle.answers.specs.Steps.{stepFields, countFields}
-use Rattle.answers.specs.Answers.{ifRoom, result, answered, readFields, moveFields, applyFields, finding, settingFields, auditFields}
+use Rattle.answers.specs.Answers.{ifRoom, result, answered, readFields, moveFields, sheetFields, finding, settingFields, auditFields}
 
 -- `pajurenda_read`
 abbrev pub ReadCall : List ℕ → List ℕ → ℕ → List ℕ → Type 0
 ReadCall xs A r a = (r ≡ result 12 A (reading xs .number)) × (a ≡ answered A (readFields (reading xs)))
 
--- `pajurenda_move`; ys is the image afterwards
-abbrev pub MoveCall : List ℕ → ℕ → List ℕ → ℕ → List ℕ → List ℕ → Type 0
-MoveCall xs base A r ys a =
-    (r ≡ result 3 A (moving xs base .number)) × ((ys ≡ ifRoom 3 A (movedImage xs base) xs) × (a ≡ answered A (moveFields (moving xs base))))
+-- `pajurenda_release`; ys is the image afterwards
+abbrev pub ReleaseCall : List ℕ → List ℕ → ℕ → List ℕ → ℕ → List ℕ → List ℕ → Type 0
+ReleaseCall xs s base A r ys a =
+    (r ≡ result 3 A (releasing xs s base .number))
+    × ((ys ≡ ifRoom 3 A (releasedImage xs s base) xs) × (a ≡ answered A (moveFields (releasing xs s base))))
 
--- `pajurenda_apply`
-abbrev pub ApplyCall : List ℕ → List ℕ → List ℕ → ℕ → List ℕ → List ℕ → Type 0
-ApplyCall xs s A r ys a =
-    (r ≡ result 2 A (applying xs s .number)) × ((ys ≡ ifRoom 2 A (appliedImage xs s) xs) × (a ≡ answered A (applyFields (applying xs s))))
+-- `pajurenda_sheet`
+abbrev pub SheetCall : List ℕ → List ℕ → ℕ → List ℕ → Type 0
+SheetCall s A r a = (r ≡ result 5 A (sheetReading s .number)) × (a ≡ answered A (sheetFields (sheetReading s)))
 
 -- `pajurenda_setting`
 abbrev pub SettingCall : List ℕ → ℕ → ℕ → List ℕ → ℕ → List ℕ → Type 0

@@ -3,23 +3,27 @@
 use Prim.Native.Nat.{ℕ, _+_, _-_, _^_}
 use mathlib.Core.List.{List, _++_}
 use mathlib.Core.Path.{_≡_, refl, ap, _∙_}
-use Rattle.facts.specs.Fact.{test}
+use Rattle.facts.specs.Fact.{test, allBelow}
+use Rattle.facts.specs.Rules.{run}
+use Rattle.words.specs.Le.{le}
 use Rattle.words.specs.Put.{digit, put, putAll}
 use Rattle.words.specs.Number.{number, zeros}
 use Rattle.image.specs.declared.Reading.{Reading}
 use Rattle.image.specs.Reading.{reading}
 use Rattle.image.specs.Small.{small, settingBytes, small-reads}
 use Rattle.moving.specs.declared.Moved.{Moved}
-use Rattle.moving.specs.Moving.{moving}
-use Rattle.moving.specs.Small.{small-move}
-use Rattle.sheet.specs.declared.Applied.{Applied}
-use Rattle.sheet.specs.Applying.{applying}
-use Rattle.sheet.specs.Small.{sample, small-applied, small-found}
+use Rattle.sheet.specs.declared.SheetReading.{SheetReading}
+use Rattle.sheet.specs.Sheet.{bodyAt}
+use Rattle.sheet.specs.ReadSheet.{sheetReading}
+use Rattle.sheet.specs.Small.{sample}
+use Rattle.lookup.specs.Small.{small-found}
+use Rattle.release.specs.Release.{releasing}
+use Rattle.released.specs.Small.{small-release}
 use Rattle.audit.specs.declared.Audited.{Audited}
 use Rattle.audit.specs.Audit.{auditing}
 use Rattle.audit.specs.Small.{shipped, small-audit}
 use Rattle.answers.specs.declared.Found.{Found}
-use Rattle.answers.specs.Answers.{ifRoom, result, answered, twos, readFields, moveFields, applyFields, finding, settingFields, auditFields}
+use Rattle.answers.specs.Answers.{ifRoom, result, answered, twos, readFields, moveFields, sheetFields, finding, settingFields, auditFields}
 use Rattle.answers.specs.AnswerLaws.{found-accepted}
 
 abbrev maker : List ℕ
@@ -37,14 +41,16 @@ unfolding ifRoom test putAll put digit number zeros
 read-answer = ap (λ (r : Reading). answered (zeros 96) (readFields r)) small-reads
 
 -- number, index, how far, in two's complement
-pub move-answer : answered (zeros 24) (moveFields (moving maker 0x00100000)) ≡ number 8 0 ++ (number 8 0 ++ number 8 (2 ^ 64 - 4293394432))
+pub release-answer : answered (zeros 24) (moveFields (releasing maker sample 0x00100000))
+    ≡ number 8 0 ++ (number 8 0 ++ number 8 (2 ^ 64 - 4293394432))
 unfolding ifRoom test putAll put digit number zeros twos
-move-answer = ap (λ (r : Moved). answered (zeros 24) (moveFields r)) small-move
+release-answer = ap (λ (r : Moved). answered (zeros 24) (moveFields r)) small-release
 
--- number, index
-pub apply-answer : answered (zeros 16) (applyFields (applying maker sample)) ≡ number 8 0 ++ number 8 0
-unfolding ifRoom test putAll put digit number zeros
-apply-answer = ap (λ (r : Applied). answered (zeros 16) (applyFields r)) small-applied
+-- number, entries, identity, revision, extended number
+pub sheet-answer : answered (zeros 40) (sheetFields (sheetReading sample))
+    ≡ number 8 0 ++ (number 8 1 ++ (number 8 0x31302D5441455254 ++ (number 8 0x01020304 ++ number 8 0)))
+unfolding ifRoom test putAll put digit number zeros sheetReading run allBelow le sample bodyAt
+sheet-answer = refl
 
 -- number, place, length
 pub setting-answer : answered (zeros 24) (settingFields (finding maker 40 2)) ≡ number 8 0 ++ (number 8 228 ++ number 8 2)

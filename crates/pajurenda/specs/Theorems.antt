@@ -18,7 +18,7 @@ use Rattle.audit.specs.Audit.{reference, differing, auditing, listedBytes}
 use Rattle.audit.specs.AuditLaws.{Accepted, audit-accepted, fits}
 use Rattle.answers.specs.Answers.{answered}
 use Rattle.answers.specs.AnswerLaws.{roomy, short}
-use Rattle.pajurenda.specs.Promises.{ReadCall, MoveCall, ApplyCall, SettingCall, AuditCall, HandoffCall, HandoffsCall}
+use Rattle.pajurenda.specs.Promises.{ReadCall, ReleaseCall, SheetCall, SettingCall, AuditCall, HandoffCall, HandoffsCall}
 use Rattle.pajurenda.specs.FieldLaws.{Small, small-at, entries-small}
 
 -- ---- the answer's buffer
@@ -71,13 +71,12 @@ module _ (xs ys bytes : List ℕ) where
 pub one-read-call : (xs A : List ℕ) (r s : ℕ) (a b : List ℕ) → ReadCall xs A r a → ReadCall xs A s b → (r ≡ s) × (a ≡ b)
 one-read-call xs A r s a b (e, f) (g, h) = (e ∙ sym g, f ∙ sym h)
 
-pub one-move-call : (xs A : List ℕ) (base r s : ℕ) (a b m n : List ℕ) → MoveCall xs base A r m a → MoveCall xs base A s n b
-    → (r ≡ s) × (m ≡ n) × (a ≡ b)
-one-move-call xs A base r s a b m n (e, (f, g)) (h, (k, l)) = (e ∙ sym h, f ∙ sym k, g ∙ sym l)
+pub one-release-call : (xs sheet A : List ℕ) (base r s : ℕ) (a b m n : List ℕ) → ReleaseCall xs sheet base A r m a
+    → ReleaseCall xs sheet base A s n b → (r ≡ s) × (m ≡ n) × (a ≡ b)
+one-release-call xs sheet A base r s a b m n (e, (f, g)) (h, (k, l)) = (e ∙ sym h, f ∙ sym k, g ∙ sym l)
 
-pub one-apply-call : (xs sheet A : List ℕ) (r s : ℕ) (a b m n : List ℕ) → ApplyCall xs sheet A r m a → ApplyCall xs sheet A s n b
-    → (r ≡ s) × (m ≡ n) × (a ≡ b)
-one-apply-call xs sheet A r s a b m n (e, (f, g)) (h, (k, l)) = (e ∙ sym h, f ∙ sym k, g ∙ sym l)
+pub one-sheet-call : (sheet A : List ℕ) (r s : ℕ) (a b : List ℕ) → SheetCall sheet A r a → SheetCall sheet A s b → (r ≡ s) × (a ≡ b)
+one-sheet-call sheet A r s a b (e, f) (g, h) = (e ∙ sym g, f ∙ sym h)
 
 pub one-setting-call : (xs A : List ℕ) (offset size r s : ℕ) (a b : List ℕ) → SettingCall xs offset size A r a
     → SettingCall xs offset size A s b → (r ≡ s) × (a ≡ b)

@@ -1,5 +1,5 @@
 // The library as C calls it. Each answer is written in a lent buffer; the header is include/pajurenda.h.
-ghost use Rattle.pajurenda.specs.Promises.{ReadCall, MoveCall, ApplyCall, SettingCall, AuditCall, HandoffCall, HandoffsCall};
+ghost use Rattle.pajurenda.specs.Promises.{ReadCall, ReleaseCall, SheetCall, SettingCall, AuditCall, HandoffCall, HandoffsCall};
 
 // Reads an image.
 #[no_mangle]
@@ -14,29 +14,34 @@ pub extern "C" fn pajurenda_read(image: &[u8], answer: &mut [u8]) -> u32
     r.number
 }
 
-// Moves an image in place.
+// Releases an image in place: a sheet's bytes set, then moved.
 #[no_mangle]
-pub extern "C" fn pajurenda_move(image: &mut [u8], base: u64, answer: &mut [u8]) -> u32
-    ensures { λ r. ⌜ MoveCall (now (image .entry)) base (now (answer .entry)) r (now (image .exit)) (now (answer .exit)) ⌝ }
+pub extern "C" fn pajurenda_release(
+    image: &mut [u8],
+    sheet: &[u8],
+    base: u64,
+    answer: &mut [u8],
+) -> u32
+    ensures { λ r. ⌜ ReleaseCall (now (image .entry)) (now (sheet .entry)) base (now (answer .entry)) r (now (image .exit)) (now (answer .exit)) ⌝ }
 {
     if answer.len() < 24 {
         return 100;
     }
-    let r = moving::move_image(image, base);
+    let r = release::release(image, sheet, base);
     answers::write_moved(answer, r);
     r.number
 }
 
-// Applies a release sheet in place.
+// Reads a release sheet by itself.
 #[no_mangle]
-pub extern "C" fn pajurenda_apply(image: &mut [u8], sheet: &[u8], answer: &mut [u8]) -> u32
-    ensures { λ r. ⌜ ApplyCall (now (image .entry)) (now (sheet .entry)) (now (answer .entry)) r (now (image .exit)) (now (answer .exit)) ⌝ }
+pub extern "C" fn pajurenda_sheet(sheet: &[u8], answer: &mut [u8]) -> u32
+    ensures { λ r. ⌜ SheetCall (now (sheet .entry)) (now (answer .entry)) r (now (answer .exit)) ⌝ }
 {
-    if answer.len() < 16 {
+    if answer.len() < 40 {
         return 100;
     }
-    let r = sheet::apply(image, sheet);
-    answers::write_applied(answer, r);
+    let r = sheet::read_sheet(sheet);
+    answers::write_sheet_reading(answer, r);
     r.number
 }
 

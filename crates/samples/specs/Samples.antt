@@ -7,7 +7,8 @@ use mathlib.Core.Path.{_≡_, refl, sym, ap, _∙_}
 use native.Mathlib.Omega.{arith}
 use lib.Dec.{ltb}
 use lib.IntN.{ℤ, pos, negsuc, natAbs}
-use lib.ListN.{length, getD, take}
+use native.Mathlib.Decide.{decLt}
+use lib.ListN.{length, getD, take, List·getD-eq-default}
 use lib.Signed.{ltZ}
 use Rattle.facts.specs.Fact.{Fact, _≤?_, _≡?_, deny, _and_, every, allBelow, test, Holds, holds, passes, fails, agree, says}
 use Rattle.facts.specs.Rules.{run, and-left, and-right}
@@ -17,18 +18,17 @@ use Rattle.words.specs.Put.{digit}
 use Rattle.words.specs.Number.{number}
 use Rattle.header.specs.Base.{legalBase}
 use Rattle.table.specs.Entry.{refusedPlace, placeOf}
-use Rattle.image.specs.declared.Identity.{Identity}
+use Rattle.image.specs.declared.Reading.{Reading}
 use Rattle.image.specs.Reading.{rebased, refusal, reading}
 use Rattle.image.specs.Guarantee.{guaranteed}
 use Rattle.moving.specs.Moves.{difference}
-use Rattle.moving.specs.Moving.{wordsAt, acceptedMove, moving, movedImage}
-use Rattle.moving.specs.MovingLaws.{moving-accepted}
-use Rattle.moving.specs.Theorems.{moved-number}
+use Rattle.moving.specs.Moving.{wordsAt, refusedMove, acceptedMove}
 use Rattle.sheet.specs.Small.{sample}
-use Rattle.sheet.specs.Sheet.{Sound, sheetIdentity, count, offset, size, bodyAt, contentsFit, bodiesFit, sameIdentity, fieldFits}
-use Rattle.sheet.specs.Applying.{applied, sheetRules, applying, appliedImage}
-use Rattle.sheet.specs.ApplyingLaws.{sound-sheet, applying-judged, applying-accepted, set-in}
-use Rattle.sheet.specs.declared.Applied.{Applied}
+use Rattle.sheet.specs.Sheet.{Sound, sheetIdentity, count, offset, size, bodyAt, contentsFit, bodiesFit, sheetFits, sameIdentity, fieldFits}
+use Rattle.sheet.specs.Set.{Fits}
+use Rattle.release.specs.Release.{releaseRules, releasing, releasedImage}
+use Rattle.release.specs.ReleaseLaws.{release-judged, release-accepted, release-goes}
+use Rattle.released.specs.Theorems.{released-entry, released-word}
 
 pub data Row : Type 0 where
   -- an entry of an image of this size points at this place
@@ -39,16 +39,16 @@ pub data Row : Type 0 where
   legal : (size base : ℕ) → Row
   -- a base isn't
   illegal : (size base : ℕ) → Row
-  -- an image at old that is moved to new moves by this difference, and answers that it goes down by this much
+  -- an image at old that is released to new moves by this difference, and answers that it goes down by this much
   moves : (old new difference down : ℕ) → Row
-  -- such a move makes of this word that one
+  -- such a release makes of this word that one
   makes : (old new word moved : ℕ) → Row
   -- for an image of the sheet's identity and revision with at least so many region bytes, the sheet sets two region bytes to these
   sets : (sheet : List ℕ) (z at first second : ℕ) → Row
   -- the sheet is refused with 15
   unsound : (sheet : List ℕ) → Row
 
--- the move in the answer to a move from old to new
+-- the move in the answer to a release from old to new
 abbrev distanceOf : ℕ → ℕ → ℤ
 distanceOf old new = acceptedMove (rebased (refusal 0 0) old) new .distance
 
@@ -82,6 +82,7 @@ check (sets s z at first second) =
     and size s 0 ≡? 2
     and getD s (bodyAt s 0) 0 ≡? first
     and getD s (bodyAt s 0 + 1) 0 ≡? second
+    and every (length s) (λ i. getD s i 0 ≤? 255)
 check (unsound s) = contentsFit s and deny (bodiesFit s)
 
 -- what a row says of the rules
@@ -92,53 +93,67 @@ Claim (legal size base) = Holds (check (legal size base))
 Claim (illegal size base) = Holds (check (illegal size base))
 Claim (moves old new by down) =
     (difference old new 4 ≡ by)
-    × ((xs : List ℕ) → reading xs .number ≡ 0 → reading xs .base ≡ old → Holds (legalBase (length xs) new)
-    → moving xs new ≡ record { number = 0; index = 0; distance = negsuc (down - 1) })
+    × ((xs s : List ℕ) → Fits xs s → reading xs .base ≡ old → Holds (legalBase (length xs) new)
+    → releasing xs s new ≡ record { number = 0; index = 0; distance = negsuc (down - 1) })
 Claim (makes old new word moved) =
-    (xs : List ℕ) → Bytes xs → reading xs .number ≡ 0 → reading xs .base ≡ old → Holds (legalBase (length xs) new)
+    (xs s : List ℕ) → Bytes xs → Bytes s → Fits xs s → reading xs .base ≡ old → Holds (legalBase (length xs) new)
     → (j : ℕ) → j < suc (reading xs .n) → le 4 xs (wordsAt xs (reading xs) j) ≡ word
-    → le 4 (movedImage xs new) (wordsAt xs (reading xs) j) ≡ moved
+    → le 4 (releasedImage xs s new) (wordsAt xs (reading xs) j) ≡ moved
 Claim (sets s z at first second) =
-    (xs : List ℕ) → reading xs .number ≡ 0 → Holds (sameIdentity (sheetIdentity s) (reading xs .identity)) → z ≤ reading xs .z
-    → (applying xs s ≡ applied 0 0)
-    × (getD (appliedImage xs s) (reading xs .c + at) 0 ≡ first)
-    × (getD (appliedImage xs s) (reading xs .c + at + 1) 0 ≡ second)
-Claim (unsound s) = (xs : List ℕ) → reading xs .number ≡ 0 → applying xs s ≡ applied 15 0
+    (xs : List ℕ) (base : ℕ) → Bytes xs → reading xs .number ≡ 0 → Holds (sameIdentity (sheetIdentity s) (reading xs .identity))
+    → z ≤ reading xs .z → Holds (legalBase (length xs) base)
+    → (releasing xs s base ≡ acceptedMove (reading xs) base)
+    × (getD (releasedImage xs s base) (reading xs .c + at) 0 ≡ first)
+    × (getD (releasedImage xs s base) (reading xs .c + at + 1) 0 ≡ second)
+Claim (unsound s) = (xs : List ℕ) (base : ℕ) → reading xs .number ≡ 0 → releasing xs s base ≡ refusedMove 15 0
+
+-- a list of bytes
+bytes-so : (s : List ℕ) → Holds (every (length s) (λ i. getD s i 0 ≤? 255)) → Bytes s
+unfolding Bytes
+bytes-so s h k =
+    elim (decLt k (length s)) [
+      | yes l ↦ omega (arith, h k l)
+      | no l ↦
+          let past : length s ≤ k = omega arith in
+          rw (List·getD-eq-default s 0 past) (omega arith)
+    ]
 
 -- a row that computes is right
 right : (row : Row) → Holds (check row) → Claim row
-unfolding run sheetRules
+unfolding run releaseRules
 right (points size entry place) h = h
 right (refuses size entry number) h = h
 right (legal size base) h = h
 right (illegal size base) h = h
 right (moves old new by down) (by-is, (low, far)) = (
   by-is,
-  λ xs ok base legal.
-      moving-accepted xs new ok legal .0
+  λ xs s fits base legal.
+      release-accepted xs s new (fits, legal)
       ∙ ap (λ (b : ℕ). acceptedMove (rebased (refusal 0 0) b) new) base
       ∙ ap (λ (z : ℤ). record { number = 0; index = 0; distance = z })
       (below (distanceOf old new) low ∙ ap (λ (k : ℕ). negsuc (k - 1)) far),
 )
-right (makes old new word moved) h = λ xs b ok base legal j n is.
-    moved-number xs b ok new legal j n
+right (makes old new word moved) h = λ xs s bx bs fits base legal j n is.
+    released-word xs s new (release-goes xs s new (fits, legal)) bx bs j n
     ∙ ap (λ (v : ℕ). (v + difference (reading xs .base) new 4) % 2 ^ 32) is
     ∙ ap (λ (o : ℕ). (word + difference o new 4) % 2 ^ 32) base
     ∙ h
-right (sets s z at first second) (contents, (bodies, (fields, (one, (place, (two, (a, b))))))) = λ xs ok names room.
+right (sets s z at first second) (contents, (bodies, (fields, (one, (place, (two, (a, (b, bytes)))))))) = λ xs base bx ok names room legal.
     let sound : Sound s (reading xs .z) =
     record { contents = contents; bodies = bodies; fields = λ i h. (fields i h .0, omega (arith, fields i h .1)) } in
-    let judged = ap (λ (v : Applied). v .number) (sound-sheet (reading xs .identity) (reading xs .z) s sound names) in
-    let after = applying-accepted xs s ok judged in
-    let byte = set-in xs (reading xs) s (guaranteed xs ok) sound 0 in (
-      after .0,
-      rw (after .1, ← place) (let e : reading xs .c + offset s 0 + 0 ≡ reading xs .c + offset s 0 = omega arith in let f : bodyAt s 0 + 0 ≡ bodyAt s 0 = omega arith in rw (e, f) at (byte 0 one (omega arith)) ∙ a),
-      rw (after .1, ← place) (byte 1 one (omega arith) ∙ b),
+    let fits : Fits xs s = record { read = ok; sound = sound; names = names } in
+    let goes = release-goes xs s base (fits, legal) in
+    let byte = released-entry xs s base goes bx (bytes-so s bytes) 0 in
+    let e : reading xs .c + offset s 0 + 0 ≡ reading xs .c + offset s 0 = omega arith in
+    let f : bodyAt s 0 + 0 ≡ bodyAt s 0 = omega arith in (
+      release-accepted xs s base (fits, legal),
+      rw (← place) (rw (e, f) at (byte 0 one (omega arith)) ∙ a),
+      rw (← place) (byte 1 one (omega arith) ∙ b),
     )
-right (unsound s) (contents, none) = λ xs ok. applying-judged xs s ok ∙ refused (reading xs .identity) (reading xs .z)
+right (unsound s) (contents, none) = λ xs base ok. release-judged xs s base ok ∙ refused (reading xs) (length xs) base
   where
-    refused : (identity : Identity) (z : ℕ) → run applied (sheetRules identity z s) ≡ applied 15 0
-    refused identity z = rw (passes (contentsFit s) contents, fails (bodiesFit s) none)
+    refused : (r : Reading) (size base : ℕ) → run refusedMove (releaseRules r size s base) ≡ refusedMove 15 0
+    refused r size base = rw (fails (sheetFits s) (λ h. none (h .1)))
 
 -- every row of a list
 abbrev pub Each : List Row → Type 0

@@ -1,9 +1,6 @@
 pub mod Sheet
-pub mod Applying
+pub mod ReadSheet
+pub mod Set
 pub mod PartLaws
-pub mod ApplyingLaws
-pub mod Setting
-pub mod SettingLaws
-pub mod Theorems
-pub mod Older
+pub mod SetLaws
 pub mod Small

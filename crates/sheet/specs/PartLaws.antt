@@ -7,7 +7,7 @@ use native.Mathlib.Omega.{arith}
 use native.Mathlib.Nat.{add-assoc}
 use lib.ListN.{length, getD, take, drop, length-append, length-drop, List·getD-append}
 use lib.Seq.{length-take-le, getD-append-add, getD-take, getD-drop}
-use Rattle.sheet.specs.Applying.{joined}
+use Rattle.sheet.specs.Set.{joined}
 
 module _ (xs : List ℕ) (from long : ℕ) (m : List ℕ) (fits : from + long ≤ length xs) (same : length m ≡ long) where
   front : length (take from xs) ≡ from

@@ -55,6 +55,10 @@ contentsFit s = 16 ≤? length s and length s ≤? 65535 and count s ≤? 256 an
 abbrev pub bodiesFit : List ℕ → Fact
 bodiesFit s = every (count s) (entryFits s) and bodyAt s (count s) ≡? length s
 
+-- 15 SHEET
+abbrev pub sheetFits : List ℕ → Fact
+sheetFits s = contentsFit s and bodiesFit s
+
 -- 16 IDENTITY: it names this image at this revision, with this extended number
 abbrev pub sameIdentity : Identity → Identity → Fact
 sameIdentity a b = a .image ≡? b .image and a .revision ≡? b .revision and a .extended ≡? b .extended

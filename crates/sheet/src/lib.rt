@@ -5,17 +5,10 @@ ghost use mathlib.Core.Path.{_≡_};
 ghost use Prim.Native.Nat.{_+_, _-_, _*_, _≤_, _<_};
 ghost use lib.ListN.{length};
 ghost use Rattle.facts.specs.Fact.{Holds, Tells, every};
-ghost use Rattle.facts.specs.Rules.{run};
 ghost use Rattle.image.specs.Guarantee.{Guaranteed};
-ghost use Rattle.sheet.specs.Sheet.{Sound, sheetIdentity, count, offset, size, position, entryAt, follows, contentsFit, bodiesFit, sameIdentity, inField, fieldFits};
-ghost use Rattle.sheet.specs.Applying.{copied, written, setBy, applied, nameRules, sheetRules, Applies};
-ghost use Rattle.sheet.specs.Setting.{settingFits, FoundIn, HandsBack, NumberOf};
-
-// The answer of an apply: number 0, or the refusal's number and index.
-pub struct Applied {
-    pub number: u32,
-    pub index: usize,
-}
+ghost use Rattle.sheet.specs.Sheet.{Sound, sheetIdentity, count, offset, size, position, entryAt, follows, contentsFit, bodiesFit, sheetFits, sameIdentity, inField, fieldFits};
+ghost use Rattle.sheet.specs.ReadSheet.{ReadsSheet};
+ghost use Rattle.sheet.specs.Set.{copied, written, setBy};
 
 // An entry of a sheet.
 pub struct Entry {
@@ -98,6 +91,19 @@ fn bodies_fit(sheet: &[u8]) -> bool
     true
 }
 
+// Rule 15.
+pub fn sheet_fits(sheet: &[u8]) -> bool
+    ensures { λ r. ⌜ Tells r (sheetFits (now (sheet .entry))) ⌝ }
+{
+    if !contents_fit(sheet) {
+        return false;
+    }
+    if !bodies_fit(sheet) {
+        return false;
+    }
+    true
+}
+
 // The identity that the sheet names.
 fn identity_of(sheet: &[u8]) -> Identity
     requires { ⌜ 16 ≤ length (now sheet) ⌝ }
@@ -126,6 +132,14 @@ fn same_identity(a: Identity, b: Identity) -> bool
     true
 }
 
+// Rule 16, for an image of this identity.
+pub fn names(sheet: &[u8], identity: Identity) -> bool
+    requires { ⌜ Holds (sheetFits (now sheet)) ⌝ }
+    ensures { λ r. ⌜ Tells r (sameIdentity (sheetIdentity (now (sheet .entry))) identity) ⌝ }
+{
+    same_identity(identity_of(sheet), identity)
+}
+
 // Rule 17 for one entry.
 fn field_fits(w: Entry, z: usize) -> bool
     requires { ⌜ (w .offset < 4294967296) × (w .size < 65536) ⌝ }
@@ -141,8 +155,8 @@ fn field_fits(w: Entry, z: usize) -> bool
 }
 
 // Rule 17.
-fn fields_fit(sheet: &[u8], z: usize) -> bool
-    requires { ⌜ Holds (contentsFit (now sheet)) ⌝ }
+pub fn fields_fit(sheet: &[u8], z: usize) -> bool
+    requires { ⌜ Holds (sheetFits (now sheet)) ⌝ }
     ensures { λ r. ⌜ Tells r (every (count (now (sheet .entry))) (fieldFits (now (sheet .entry)) z)) ⌝ }
 {
     let m = words::le16(sheet, 12);
@@ -154,6 +168,35 @@ fn fields_fit(sheet: &[u8], z: usize) -> bool
         i += 1;
     }
     true
+}
+
+// A sheet read by itself: number 0, its entries and the identity that it names; or 15 and zeros.
+pub struct SheetReading {
+    pub number: u32,
+    pub count: usize,
+    pub identity: Identity,
+}
+
+// Reads a sheet, whatever it is, by rule 15 alone.
+pub fn read_sheet(sheet: &[u8]) -> SheetReading
+    ensures { λ r. ⌜ ReadsSheet (now (sheet .entry)) r ⌝ }
+{
+    if !sheet_fits(sheet) {
+        return SheetReading {
+            number: 15,
+            count: 0,
+            identity: Identity {
+                image: 0,
+                revision: 0,
+                extended: 0,
+            },
+        };
+    }
+    SheetReading {
+        number: 0,
+        count: words::le16(sheet, 12),
+        identity: identity_of(sheet),
+    }
 }
 
 // Copies n bytes of the sheet from `from` on to `at`.
@@ -182,119 +225,12 @@ fn write_sheet(part: &mut [u8], sheet: &[u8])
     }
 }
 
-fn answered(number: u32, index: usize) -> Applied
-    ensures { λ r. ⌜ r ≡ applied number index ⌝ }
-{
-    Applied { number, index }
-}
-
-// Rules 16 and 17.
-fn judge_names(sheet: &[u8], identity: Identity, z: usize) -> Applied
-    requires { ⌜ Holds (contentsFit (now sheet)) ⌝ }
-    ensures { λ r. ⌜ r ≡ run applied (nameRules identity z (now (sheet .entry))) ⌝ }
-{
-    if !same_identity(identity_of(sheet), identity) {
-        return answered(16, 0);
-    }
-    if !fields_fit(sheet, z) {
-        return answered(17, 0);
-    }
-    answered(0, 0)
-}
-
-// Rules 15, 16 and 17 for an image of this identity with a region of z bytes: the sheet is judged whole.
-fn judge(sheet: &[u8], identity: Identity, z: usize) -> Applied
-    ensures { λ r. ⌜ r ≡ run applied (sheetRules identity z (now (sheet .entry))) ⌝ }
-{
-    if !contents_fit(sheet) {
-        return answered(15, 0);
-    }
-    if !bodies_fit(sheet) {
-        return answered(15, 0);
-    }
-    judge_names(sheet, identity, z)
-}
-
 // Sets the bytes of a sheet that was judged.
-fn set_by(image: &mut [u8], r: Reading, sheet: &[u8])
+pub fn set_by(image: &mut [u8], r: Reading, sheet: &[u8])
     requires { ⌜ Guaranteed (now image) r × Sound (now sheet) (r .z) ⌝ }
     ensures { λ _. ⌜ now (image .exit) ≡ setBy (now (image .entry)) r (now (sheet .entry)) ⌝ }
 {
     let from = r.c + 32;
     let end = r.c + r.z;
     write_sheet(&mut image[from..end], sheet);
-}
-
-// Applies a sheet to an image, whatever both are, or refuses and changes nothing.
-pub fn apply(image: &mut [u8], sheet: &[u8]) -> Applied
-    ensures { λ r. ⌜ Applies (now (image .entry)) (now (sheet .entry)) r (now (image .exit)) ⌝ }
-{
-    let r = image::read(image);
-    if r.number != 0 {
-        return answered(r.number, r.index);
-    }
-    let k = r.identity;
-    let v = judge(sheet, k, r.z);
-    if v.number != 0 {
-        return v;
-    }
-    set_by(image, r, sheet);
-    v
-}
-
-// Rule 17 for one setting.
-fn setting_fits(offset: usize, size: usize, z: usize) -> bool
-    ensures { λ r. ⌜ Tells r (settingFits offset size z) ⌝ }
-{
-    if size < 1 {
-        return false;
-    }
-    if offset < 32 {
-        return false;
-    }
-    if z < offset {
-        return false;
-    }
-    if z - offset < size {
-        return false;
-    }
-    true
-}
-
-// The setting's bytes in the region, or the empty part.
-fn in_region(region: &[u8], offset: usize, size: usize) -> &[u8]
-    ensures { λ r. ⌜ FoundIn (region .entry) offset size r ⌝ }
-{
-    if !setting_fits(offset, size, region.len()) {
-        return &region[0..0];
-    }
-    let end = offset + size;
-    &region[offset..end]
-}
-
-// The part of the image that holds a setting, or the empty part.
-pub fn setting(image: &[u8], offset: u64, size: u64) -> &[u8]
-    ensures { λ r. ⌜ HandsBack (image .entry) offset size r ⌝ }
-{
-    let r = image::read(image);
-    if r.number != 0 {
-        return &image[0..0];
-    }
-    let c = r.c;
-    let end = r.c + r.z;
-    in_region(&image[c..end], offset as usize, size as usize)
-}
-
-// The number that goes with it: 0, the image's refusal, or 17.
-pub fn setting_number(image: &[u8], offset: u64, size: u64) -> u32
-    ensures { λ r. ⌜ NumberOf (now (image .entry)) offset size r ⌝ }
-{
-    let r = image::read(image);
-    if r.number != 0 {
-        return r.number;
-    }
-    if !setting_fits(offset as usize, size as usize, r.z) {
-        return 17;
-    }
-    0
 }

@@ -1,5 +1,5 @@
 use Rattle.answers.specs.AnswerLaws.{found-refused, found-accepted}
-use Rattle.sheet.specs.SettingLaws.{setting-passed}
+use Rattle.lookup.specs.SettingLaws.{setting-passed}
 use Rattle.image.specs.Guarantee.{guaranteed}
 use native.Mathlib.Omega.{arith}
 use borrow.Author.Needs.{needs}

@@ -1,4 +1,4 @@
-use Rattle.sheet.specs.Applying.{copied}
+use Rattle.sheet.specs.Set.{copied}
 use lib.ListN.{length, length-set}
 use Prim.Native.Nat.{_-_, _≤_}
 use mathlib.Core.Path.{_≡_, refl}

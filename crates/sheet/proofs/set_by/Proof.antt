@@ -1,4 +1,4 @@
-use Rattle.sheet.specs.Applying.{setBy}
+use Rattle.sheet.specs.Set.{setBy}
 use lib.Seq.{length-take-le}
 use lib.ListN.{length, take, drop, length-drop}
 use Prim.Native.Nat.{_+_, _-_}

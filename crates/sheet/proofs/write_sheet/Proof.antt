@@ -1,5 +1,5 @@
-use Rattle.sheet.specs.ApplyingLaws.{length-written, body-within}
-use Rattle.sheet.specs.Applying.{written, copied}
+use Rattle.sheet.specs.SetLaws.{length-written, body-within}
+use Rattle.sheet.specs.Set.{written, copied}
 use Rattle.sheet.specs.Sheet.{count, offset, size, position, bodyAt, fieldFits}
 use Rattle.sheet.specs.declared.Entry.{Entry}
 use Rattle.facts.specs.Fact.{Holds}

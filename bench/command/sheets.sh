@@ -1,0 +1,257 @@
+# shellcheck shell=sh disable=SC2034,SC2154,SC2162,SC2164
+# Sheets: the empty one, those made of a text, and those shown as a text that makes the same sheet again.
+
+treat='identity 54524541542D3031 "TREAT-01"'
+# makes IMAGE TEXT OUT ENTRIES LENGTH: the sheet of the vendor's identity, with these counts told
+makes() {
+	works 0 sheet make "$1" "$2" "$3"
+	prints "$treat" 'revision 0x01020304' 'extended 0x0000' 'version 1.2.3.4' "entries $4" "length $5"
+}
+
+try_empty_sheet() {
+	works 0 sheet empty "$vendor" "$o/sheet"
+	prints "$treat" 'revision 0x01020304' 'extended 0x0000' 'version 1.2.3.4' 'entries 0' 'length 16'
+	same "$o/sheet" "$work/nothing"
+	works 0 sheet show "$o/sheet"
+	prints "$treat" 'revision 0x01020304' 'extended 0x0000 # version 1.2.3.4' '# entries 0'
+	: >"$i/text"
+	makes "$vendor" "$i/text" "$o/none" 0 16
+	same "$o/none" "$work/nothing"
+	keeps "$o" refuses 1 "$work/empty" 'an image has 72 to 16777216 bytes: the file has 0 bytes' sheet empty "$work/empty" "$o/sheet"
+	rm "$o/sheet" "$o/none"
+}
+
+# the sample's sheet, by every way to write it; what `read` and `setting` print can be copied into it
+try_made_sheet() {
+	printf '40 0100\n' >"$i/text"
+	makes "$vendor" "$i/text" "$o/sheet" 1 26
+	same "$o/sheet" "$work/sheet"
+	for text in '40 01 00' '0x28 0100' '  40	01	00  ' '40 0100# set' '40 0100 # set' '#\n\n \n\t\n40 0100' '40 0100\r' '40 0100\r\n\r\n' '\357\273\27740 0100' \
+		"$treat\\n40 0100" '# \303\266\n40 0100' 'revision 16909060\nextended 0\n40 0100' '40 0100\nextended 0x0\nextended 0' \
+		'identity 54524541542d3031\n40 0100' 'identity 54524541542D3031 "TREAT-01"# "\n40 0100'; do
+		# shellcheck disable=SC2059
+		printf "$text" >"$i/text"
+		makes "$vendor" "$i/text" "$o/sheet" 1 26
+		same "$o/sheet" "$work/sheet"
+	done
+	run read "$vendor" | grep -e '^identity ' -e '^revision ' -e '^extended ' >"$i/text"
+	[ "$(wc -l <"$i/text")" -eq 3 ] || fail "read does not say which image it is"
+	run setting "$vendor" 40 2 | sed -n 's/^bytes/40/p' >>"$i/text"
+	makes "$vendor" "$i/text" "$o/sheet" 1 26
+	works 0 sheet show "$o/sheet" "$vendor"
+	prints "$treat" 'revision 0x01020304' 'extended 0x0000 # version 1.2.3.4' '40 0105 # replaces 0105, changes nothing' \
+		'# entries 1, of which 0 would change the image'
+	what='sheet make IMAGE /dev/stdin, a pipe'
+	got=0
+	printf '40 0100' | run sheet make "$vendor" /dev/stdin "$o/sheet" >"$work/out" 2>"$work/err" || got=$?
+	status_was 0
+	same "$o/sheet" "$work/sheet"
+}
+
+# what an entry would replace is what a release then replaces
+try_shown_sheet() {
+	poked "$vendor" "$work/unset" 4135 '\377\377\377\377'
+	printf '32 AA # first\n39 FF\n40 0100\n399 B7' >"$i/text"
+	makes "$vendor" "$i/text" "$o/sheet" 4 53
+	works 0 sheet show "$o/sheet" "$work/unset"
+	prints "$treat" 'revision 0x01020304' 'extended 0x0000 # version 1.2.3.4' "32 AA # replaces $(byte_at "$work/unset" 4128), changes 1 of 1 bytes" \
+		'39 FF # replaces FF, changes nothing' '40 0100 # replaces FFFF, changes 2 of 2 bytes' '399 B7 # replaces B6, changes 1 of 1 bytes' \
+		'# entries 4, of which 3 would change the image'
+	works 0 sheet show "$o/sheet"
+	prints "$treat" 'revision 0x01020304' 'extended 0x0000 # version 1.2.3.4' '32 AA' '39 FF' '40 0100' '399 B7' '# entries 4'
+	works 0 release "$work/unset" "$o/sheet" keep "$o/set"
+	works 0 audit --bytes "$work/unset" "$o/set"
+	prints 'base 0xFFF80000' 'settings 4' 'strays 0' "$(sed -n 4p "$work/out")" "S 4128 $(byte_at "$work/unset" 4128) AA" 'S 4136 FF 01' \
+		'S 4137 FF 00' 'S 4495 B6 B7' 'verdict explained'
+	works 0 sheet show "$o/sheet" "$o/set"
+	[ "$(grep -c ', changes nothing$' "$work/out")" -eq 4 ] || fail "what is set is still to change"
+	[ "$(tail -n 1 "$work/out")" = '# entries 4, of which 0 would change the image' ] || fail "another count"
+	passed
+}
+
+# an image with an extended number: its sheets carry it, low byte first, and a line of the text must have it
+try_extended_sheets() {
+	cd "$i"
+	longer n 6 80 170 187
+	printf 'TREAT-01\004\003\002\001\000\000\252\273' >b
+	works 0 sheet empty n "$o/sheet"
+	prints "$treat" 'revision 0x01020304' 'extended 0xBBAA' 'version 1.2.47875.43524' 'entries 0' 'length 16'
+	same "$o/sheet" b
+	sheet_of b 170 187
+	for line in '' 'extended 0xBBAA' 'extended 48042'; do
+		printf '40 0100\n%s' "$line" >t
+		works 0 sheet make n t "$o/sheet"
+		same "$o/sheet" b
+	done
+	works 0 sheet show b n
+	prints "$treat" 'revision 0x01020304' 'extended 0xBBAA # version 1.2.47875.43524' '40 0100 # replaces 0105, changes 1 of 2 bytes' \
+		'# entries 1, of which 1 would change the image'
+	again n b
+	printf '40 0100\nextended 0xAABB' >t
+	keeps "$o" values 16 t 'line 2: extended 0xAABB, n has extended 0xBBAA' sheet make n t "$o/sheet"
+	refuses 16 b "$rule_identity: the sheet is for $(parts 0xBBAA 1.2.47875.43524), v is $(parts 0x0000 1.2.3.4)" sheet show b v
+	rm n b t
+	cd "$root"
+}
+
+# byte_at FILE POSITION: in hex
+byte_at() { od -An -tx1 -j"$2" -N1 "$1" | tr -d ' ' | tr a-f A-F; }
+
+# a sheet for another image, or for none
+try_refused_sheets() {
+	cd "$i"
+	cp "$work/sheet" good
+	poked good b 11 '\002'
+	keeps "$o" refuses 16 b "$rule_identity: the sheet is for 54524541542D3031 \"TREAT-01\" revision 0x02020304 extended 0x0000 \
+version 2.2.3.4, v is $(parts 0x0000 1.2.3.4)" sheet show b v
+	poked good b 16 '\037'
+	refuses 17 b "a setting must have a byte or more, at offsets 32 to z-1 of the region: entry 0 (counted from 0) has offset 31 length 2, \
+the region's size z is 400" sheet show b v
+	works 0 sheet show b
+	prints "$treat" 'revision 0x01020304' 'extended 0x0000 # version 1.2.3.4' '31 0100' '# entries 1'
+	{ cat good && printf X; } >b
+	values 15 b 'the file has 27 bytes, m 1, the last body ends at 26' sheet show b
+	keeps "$o" values 15 b 'the file has 27 bytes, m 1, the last body ends at 26' release v b keep "$o/out"
+	head -c 25 good >b
+	values 15 b 'the file has 25 bytes, m 1, the last body ends at 26' sheet show b
+	values 15 b 'the file has 25 bytes, m 1, the last body ends at 26' sheet show b v
+	values 15 "$work/empty" 'the file has 0 bytes' sheet show "$work/empty"
+	printf '40\t0100\r\n' >b
+	values 15 b 'the file has 9 bytes, and it is text: sheet make makes a sheet of it' sheet show b
+	printf '# a text\n40 0100\n' >b
+	keeps "$o" values 15 b 'the file has 17 bytes, m 12592, entry 0 (counted from 0) is cut short, and it is text: sheet make makes a sheet of it' \
+		release v b keep "$o/out"
+	values 14 r "$entry_of_r" sheet show good r
+	values 14 r "$entry_of_r" sheet show b r
+	keeps "$o" values 14 r "$entry_of_r" sheet empty r "$o/out"
+	keeps "$o" values 14 r "$entry_of_r" sheet make r good "$o/out"
+	cd "$root"
+}
+
+# ---- random sheets ----
+
+# for regions of 400 bytes: up to 12 entries from 32 on, some touching; each byte of the sheet in octal
+draw_sheet='function octal(n) { printf "\\%o", n }
+function number(n, width) { for (; width > 0; width--) { octal(n % 256); n = int(n / 256) } }
+BEGIN { srand(seed); printf "TREAT-01\\4\\3\\2\\1"
+	m = 0
+	for (at = 32 + int(rand() * 3); m < 12 && at < 400 && rand() < 0.93; at += length_of[m++] + (rand() < 0.3 ? 0 : int(rand() * 60))) {
+		offset[m] = at; length_of[m] = 1 + int(rand() * rand() * 40)
+		if (at + length_of[m] > 400) length_of[m] = 400 - at }
+	number(m, 2); number(0, 2); body = 16 + 8 * m
+	for (k = 0; k < m; k++) { number(offset[k], 4); number(length_of[k], 2); number(body, 2); body += length_of[k] }
+	for (k = 16 + 8 * m; k < body; k++) octal(int(rand() * 256)) }'
+
+# again IMAGE SHEET: shown and made it is the same, whether or not an image stood beside it
+again() {
+	for beside in '' "$1"; do
+		works 0 sheet show "$2" ${beside:+"$beside"}
+		cp "$work/out" "$work/text"
+		works 0 sheet make "$1" "$work/text" "$o/again"
+		same "$o/again" "$2"
+	done
+}
+
+try_random_sheets() {
+	most=0
+	for turn in 0 1 2 3 4 5 6 7 8 9 10 11 12 13 14 15 16 17 18 19 20 21 22 23 24; do
+		# shellcheck disable=SC2059
+		printf "$(awk -v seed="$((seed * 100 + turn))" "$draw_sheet")" >"$i/drawn"
+		again "$vendor" "$i/drawn"
+		count=$(od -An -tu1 -j12 -N1 "$i/drawn")
+		[ "$count" -le "$most" ] || most=$count
+	done
+	[ "$most" -ge 6 ] || fail "no drawn sheet has many entries"
+}
+
+# an identity whose text has blanks, quotes and what starts a comment; one that is no text; the region's last byte and first
+try_odd_identities() {
+	for identity in '#" "#"#"' '        ' '""' '\000\001\377\012\015\011\043\040' '#identit'; do
+		poked "$vendor" "$i/odd" 116 "$identity"
+		printf '32 01\n399 02\n' >"$i/text"
+		works 0 sheet make "$i/odd" "$i/text" "$o/sheet"
+		[ "$(od -An -v -tx1 -N8 "$o/sheet")" = "$(od -An -v -tx1 -j116 -N8 "$i/odd")" ] || fail "another identity"
+		again "$i/odd" "$o/sheet"
+		grep -v '^#' "$work/text" | sed 's/ #.*changes.*//' >"$i/text"
+		works 0 sheet make "$i/odd" "$i/text" "$o/again"
+		same "$o/again" "$o/sheet"
+	done
+}
+
+# ---- large ones ----
+
+# an image with the largest region: 65536 bytes at 8192
+make_wide() {
+	head -c 131072 /dev/zero >"$work/wide"
+	dd if="$vendor" of="$work/wide" conv=notrunc 2>/dev/null
+	poke "$work/wide" 124 '\000\000\002\000'
+	poke "$work/wide" 136 '\000\040\000\000\000\000\001\000'
+	poke "$work/wide" 8198 '_T'
+}
+
+# digits COUNT: so many bytes in hex
+digits() { head -c "$1" /dev/zero | tr '\000' '\132' | od -An -v -tx1 | tr -d ' \n'; }
+
+# row COUNT: so many entries of a byte each
+row() { awk -v count="$1" 'BEGIN { for (k = 0; k < count; k++) print 32 + 2 * k, "A5" }'; }
+
+try_large_sheets() {
+	make_wide
+	works 0 read "$work/wide"
+	row 256 >"$i/text"
+	makes "$work/wide" "$i/text" "$o/sheet" 256 2320
+	again "$work/wide" "$o/sheet"
+	row 257 >"$i/text"
+	keeps "$o" refuses 15 "$i/text" "$rule_sheet: line 257: offset 544 (the one before ends at 543) length 1, entries so far 257, bytes 2329" \
+		sheet make "$work/wide" "$i/text" "$o/sheet"
+	{ row 100 && echo '300 00 # as far as here' && row 65000; } >"$i/text"
+	keeps "$o" values 15 "$i/text" 'line 102: offset 32 (the one before ends at 301) length 1, entries so far 102, bytes 934' \
+		sheet make "$work/wide" "$i/text" "$o/sheet"
+	printf '32 5A\n33 %s' "$(digits 65502)" >"$i/text"
+	makes "$work/wide" "$i/text" "$o/sheet" 2 65535
+	again "$work/wide" "$o/sheet"
+	keeps "$o" limited 'File too large' sheet make "$work/wide" "$i/text" "$o/sheet"
+	printf '32 5A\n33 %s' "$(digits 65503)" >"$i/text"
+	keeps "$o" values 15 "$i/text" 'line 2: offset 33 (the one before ends at 33) length 65503, entries so far 2, bytes 65536' \
+		sheet make "$work/wide" "$i/text" "$o/sheet"
+	printf '32 5A\n33 %s' "$(digits 65535)" >"$i/text"
+	keeps "$o" values 15 "$i/text" 'line 2: offset 33 (the one before ends at 33) length 65535, entries so far 2, bytes 65568' \
+		sheet make "$work/wide" "$i/text" "$o/sheet"
+	printf '32 5A\n33 %s' "$(digits 65536)" >"$i/text"
+	keeps "$o" fails_with "pajurenda: $i/text: line 2: more than 65535 bytes" sheet make "$work/wide" "$i/text" "$o/sheet"
+	rm "$o/sheet" "$o/again"
+}
+
+# the README's path from the maker's image to an audited one, and the texts that help and man page show, as they stand there
+try_shown_path() {
+	mkdir "$work/path"
+	cp "$vendor" "$work/path/vendor.bin"
+	# shellcheck disable=SC2016
+	sed -n 's/^`settings.txt` may be as short as `\([^`]*\)`.*/\1/p' "$root/README.md" >"$work/path/settings.txt"
+	sed -n 's/^    pajurenda //p' "$root/README.md" >"$work/path_lines"
+	[ "$(wc -l <"$work/path_lines")" -eq 5 ] || fail "not five lines in the README"
+	cd "$work/path"
+	while read -r words; do
+		# shellcheck disable=SC2086
+		works 0 $words
+	done <"$work/path_lines"
+	prints 'base 0x00512000' 'settings 1' 'strays 0' 'bits 2' 'S 4137..4137 length 1 region offset 41' 'verdict explained'
+	printf 'TREAT-01\004\003\002\001\002\000\000\000\050\000\000\000\002\000\040\000\140\000\000\000\002\000\042\000\001\000\377\356' >wanted
+	sed -n 's/^    \([^ ]\)/\1/p' "$work/help.sheet" >text
+	makes vendor.bin text sheet 2 36
+	same sheet wanted
+	sed -n '/^.SH SHEETS AS TEXT/,/^.fi/p' "$root/command/pajurenda.1" | grep -v '^[.]' >text
+	makes vendor.bin text sheet 2 36
+	same sheet wanted
+	cd "$root"
+}
+
+try_empty_sheet
+try_made_sheet
+try_shown_sheet
+try_extended_sheets
+try_refused_sheets
+try_random_sheets
+try_odd_identities
+try_large_sheets
+try_shown_path

@@ -1,0 +1,187 @@
+# shellcheck shell=sh disable=SC2034,SC2154,SC2162,SC2164
+# Texts that make no sheet: each has its line named, and OUT is kept; the library's own refusals, and what is no text of a sheet at all.
+
+rule_field='a setting must have a byte or more, at offsets 32 to z-1 of the region'
+
+# text OCTAL: the file t
+# shellcheck disable=SC2059
+text() { printf -- "$1" >t; }
+
+# no_text LINE FAULT OCTAL: it can't be read as a sheet, by the fault of that line
+no_text() {
+	text "$3"
+	keeps "$o" fails_with "pajurenda: t: line $1: $2" sheet make v t "$o/out"
+}
+
+# no_sheet N LINE VALUES OCTAL: the library refuses the sheet of the lines up to that one
+no_sheet() {
+	text "$4"
+	keeps "$o" values "$1" t "line $2: $3" sheet make v t "$o/out"
+}
+
+try_rules_of_lines() {
+	text '# c\n\n40 00\n31 00\n'
+	keeps "$o" refuses 15 t "$rule_sheet: line 4: offset 31 (the one before ends at 41) length 1, entries so far 2, bytes 34" \
+		sheet make v t "$o/out"
+	no_sheet 15 2 'offset 40 (the one before ends at 41) length 1, entries so far 2, bytes 34' '40 00\n40 00'
+	no_sheet 15 3 'offset 41 (the one before ends at 42) length 2, entries so far 2, bytes 36' '40 0001\n#\n41 0203'
+	no_sheet 15 1 'offset 40 (the one before ends at 0) length 0, entries so far 1, bytes 24' '40'
+	no_sheet 15 2 'offset 50 (the one before ends at 41) length 0, entries so far 2, bytes 33' '40 01\n50 # nothing\n60 01'
+	text '\n40 00\r\n399 0001\n'
+	keeps "$o" refuses 17 t "$rule_field: line 3: offset 399 length 2, the region's size z is 400" sheet make v t "$o/out"
+	no_sheet 17 1 "offset 31 length 1, the region's size z is 400" '31 00\n30 00\n'
+	no_sheet 17 2 "offset 400 length 1, the region's size z is 400" '40 00\n400 00\n40 00'
+	no_sheet 17 1 "offset 0 length 2, the region's size z is 400" '0x0 0001'
+	no_sheet 17 1 "offset 4294967295 length 2, the region's size z is 400" '4294967295 0001'
+	makes v "$work/old_text" "$o/out" 1 25
+	cp "$work/old" "$o/out"
+}
+
+# each part alone, in the form that the output has
+try_other_images() {
+	text "40 00\\nrevision 0x01020305\\n"
+	keeps "$o" refuses 16 t "$rule_identity: line 2: revision 0x01020305, v has revision 0x01020304" \
+		sheet make v t "$o/out"
+	no_sheet 16 1 'revision 0x02020304, v has revision 0x01020304' 'revision 33686276'
+	no_sheet 16 1 'extended 0x0100, v has extended 0x0000' 'extended 256\n40 00\n31 00'
+	no_sheet 16 3 'extended 0x0001, v has extended 0x0000' 'extended 0\n40 00\nextended 0x1'
+	no_sheet 16 1 'identity 54524541542D3032 "TREAT-02", v has identity 54524541542D3031 "TREAT-01"' 'identity 54524541542D3032 "TREAT-02"'
+	no_sheet 16 1 'identity 0000000000000000, v has identity 54524541542D3031 "TREAT-01"' 'identity 0000000000000000'
+	no_sheet 16 2 'identity 20524541542D3031 " REAT-01", v has identity 54524541542D3031 "TREAT-01"' \
+		'identity 54524541542D3031\nidentity 20524541542D3031 " REAT-01"'
+}
+
+# a number or bytes that could be taken for others
+try_no_numbers() {
+	how='is not a number: write hex as 0x00512000, decimal without a leading 0; or identity, revision or extended, and its value'
+	no_text 1 "offset \"4x\" $how" '4x 00'
+	no_text 2 "offset \"offset\" $how" '\noffset 40 00'
+	no_text 1 "offset \"Identity\" $how" 'Identity 54524541542D3031'
+	no_text 1 "offset \"-1\" $how" '-1 00'
+	no_text 1 "offset \"40:\" $how" '40: 00'
+	no_text 1 "offset \"\"40\"\" $how" '"40" 00'
+	no_text 1 'offset "040" starts with 0: write 0x040 for hex or 40 for decimal' '040 00'
+	no_text 1 'offset "2A" has no 0x: write 0x2A for hex' '2A 00'
+	no_text 1 'offset "0X28" has a capital X: write 0x28 for hex' '0X28 00'
+	no_text 3 'offset "4294967296" does not fit 32 bits' '40 00\n\n4294967296 00'
+	no_text 1 'offset "0x100000028" does not fit 32 bits' '0x100000028 00'
+	no_text 1 'offset "18446744073709551616" does not fit 32 bits' '18446744073709551616 00'
+	no_text 1 'revision "4294967296" does not fit 32 bits' 'revision 4294967296'
+	no_text 1 'extended "0x10000" does not fit 16 bits' 'extended 0x10000'
+	no_text 1 'revision "01020304" starts with 0: write 0x01020304 for hex or 1020304 for decimal' 'revision 01020304'
+	no_text 1 'revision "1.2" is not a number: write hex as 0x00512000, decimal without a leading 0' 'revision 1.2'
+	no_text 1 'identity "5452" is not eight bytes in hex, two digits each' 'identity 5452'
+	no_text 1 'identity "54524541542D30310" is not eight bytes in hex, two digits each' 'identity 54524541542D30310'
+	no_text 1 'identity "TREAT-01" is not eight bytes in hex, two digits each' 'identity TREAT-01'
+	for part in identity revision extended; do no_text 2 'a value is missing after the name' "\\n$part # 0"; done
+	no_text 1 '"2" is one word too many' 'revision 0x01020304 2'
+	no_text 1 '""TREAT-02"" is one word too many' 'identity 54524541542D3031 "TREAT-02"'
+	no_text 1 '""TREAT-01"" is one word too many' 'identity 54524541542D3031 "TREAT-01" "TREAT-01"'
+	no_text 1 '"x" is one word too many' 'identity 54524541542D3031 "TREAT-01"x'
+}
+
+try_no_bytes() {
+	no_text 1 '"0" has an odd digit: write two for each byte' '40 0'
+	no_text 2 '"012" has an odd digit: write two for each byte' '40 01\n41 00 012'
+	no_text 1 '"0x01" is not bytes in hex: write two digits for each, without 0x' '40 0x01'
+	no_text 1 '"0g" is not bytes in hex: write two digits for each, without 0x' '40 00 0g'
+	no_text 1 '"00,01" is not bytes in hex: write two digits for each, without 0x' '40 00,01'
+	no_text 1 '"'"$(digits 20)"'.." has an odd digit: write two for each byte' "40 $(digits 30)0"
+}
+
+# what a reader does not see may not stand in the text; of a sheet given as the text it is said
+try_hidden() {
+	for byte in 000 001 007 010 013 014 033 177; do
+		hex=$(printf '0x%02X' "$((0$byte))")
+		no_text 1 "control character $hex" "\\$byte"
+		no_text 2 "control character $hex" "40 00\\n# \\$byte\\n41 00"
+		no_text 2 "control character $hex" "40 00\\n41 00\\$byte"
+	done
+	no_text 1 'control character 0x0D' '40 00\r41 00'
+	no_text 1 'control character 0x0D' '40 00\r\r\n'
+	no_text 1 'control character 0x00' '4\0000\000 \0000\0000\000\n\000'
+	no_text 1 "offset \"$(printf '\303\266')\" $how" '\303\266'
+	cp "$work/sheet" t
+	keeps "$o" fails_with 'pajurenda: sheet make: t is a sheet already; sheet show prints the text of one (see pajurenda sheet make --help)' \
+		sheet make v t "$o/out"
+	cp v t
+	keeps "$o" errs 'pajurenda: t: line 1: control character 0x' sheet make v t "$o/out"
+}
+
+# long lines, files without an end, and what is no file
+try_odd_files() {
+	{ printf '# ' && head -c 1000000 /dev/zero | tr '\000' x && printf '\n40 0100'; } >t
+	makes v t "$o/sheet" 1 26
+	same "$o/sheet" "$work/sheet"
+	{ printf '40 0100' && head -c 1000000 /dev/zero | tr '\000' ' ' && printf '#'; } >t
+	makes v t "$o/sheet" 1 26
+	same "$o/sheet" "$work/sheet"
+	head -c 1000000 /dev/zero | tr '\000' 0 >t
+	keeps "$o" fails_with "pajurenda: t: line 1: offset \"$(digits 20 | tr 5a 00)..\" is not a number" sheet make v t "$o/out"
+	{ printf '40 ' && head -c 1000000 /dev/zero | tr '\000' 0; } >t
+	keeps "$o" fails_with 'pajurenda: t: line 1: more than 65535 bytes' sheet make v t "$o/out"
+	{ printf '40 ' && head -c 999999 /dev/zero | tr '\000' 0; } >t
+	keeps "$o" fails_with "pajurenda: t: line 1: \"$(digits 20 | tr 5a 00)..\" has an odd digit: write two for each byte" \
+		sheet make v t "$o/out"
+	{ head -c 1000000 /dev/zero | tr '\000' '\n' && printf '40'; } >t
+	keeps "$o" values 15 t 'line 1000001: offset 40 (the one before ends at 0) length 0, entries so far 1, bytes 24' sheet make v t "$o/out"
+	for file in /dev/zero "$work/larger"; do
+		keeps "$o" fails_with "pajurenda: $file: File too large" sheet make v "$file" "$o/out"
+	done
+	text '40 00'
+	keeps "$o" errs 'No such file' sheet make v t "$o/missing/out"
+	keeps "$o" errs 'Is a directory' sheet make v t "$o"
+	makes v /dev/null "$o/sheet" 0 16
+	keeps "$o" fails_with "pajurenda: $o: Is a directory" sheet make v "$o" "$o/out"
+	keeps "$o" fails_with "pajurenda: missing: No such file or directory" sheet make v missing "$o/out"
+	rm "$o/sheet"
+}
+
+# a pipe with a name is read as what comes through it, and never written to
+try_named_pipe() {
+	rm -f t
+	mkfifo t
+	printf '40 0100' >t &
+	makes v t "$o/sheet" 1 26
+	wait
+	same "$o/sheet" "$work/sheet"
+	rm t "$o/sheet"
+	mkfifo "$o/pipe"
+	text '40 00'
+	keeps "$o" errs 'Not a regular file' sheet make v t "$o/pipe"
+	keeps "$o" errs 'Not a regular file' sheet empty v "$o/pipe"
+	rm "$o/pipe"
+}
+
+# lost COMMAND INPUT WORDS..: OUT is that input, under its own name or another, and nothing is written
+lost() {
+	line="pajurenda: $1: OUT is $2 itself, which would be lost (see pajurenda $1 --help)"
+	shift 2
+	keeps "$i" fails_with "$line" "$@"
+}
+
+try_out_is_input() {
+	text '40 00'
+	cp "$work/sheet" s26
+	ln -s v by_link
+	ln t by_name
+	lost 'sheet empty' IMAGE sheet empty v v
+	lost 'sheet empty' IMAGE sheet empty v by_link
+	lost 'sheet empty' IMAGE sheet empty by_link ./v
+	lost 'sheet make' IMAGE sheet make v t v
+	lost 'sheet make' IMAGE sheet make v t by_link
+	lost 'sheet make' TEXT sheet make v t t
+	lost 'sheet make' TEXT sheet make v t by_name
+	lost release SHEET release v s26 keep s26
+	lost release SHEET release v s26 0x00100000 "$i/s26"
+	keeps "$i" errs 'is a sheet already' sheet make v s26 by_name
+	rm by_link by_name s26
+}
+
+cd "$i"
+cp "$work/old" "$o/out"
+printf '40 00' >"$work/old_text"
+for one in rules_of_lines other_images no_numbers no_bytes hidden odd_files named_pipe out_is_input; do
+	"try_$one"
+done
+cd "$root"

@@ -1,0 +1,181 @@
+/* The counts of compare.c and its conclusion. */
+#include "pajurenda.h"
+
+#include <inttypes.h>
+#include <stdbool.h>
+#include <stdio.h>
+
+#include "counts.h"
+#include "drawing.h"
+#include "fields.h"
+
+/* A run of so many calls must have every number. */
+#define LONG 10000
+
+const char *const call_name[CALLS] = { "read", "release", "sheet", "setting", "audit" };
+
+/* What came: numbers by call; lengths, and those that got past the reading, by call and edge. */
+static uint64_t seen[CALLS][101];
+static uint64_t at_edge[CALLS][EDGES], past_reading[CALLS][EDGES];
+static uint64_t long_images;
+
+/* Sheets by themselves: those of refusal 15's lengths, and accepted ones without entries, with fewer than 256, with 256. */
+static uint64_t of_length[SHEET_LENGTHS], right_length[SHEET_LENGTHS];
+static uint64_t right_sheets[3];
+
+/* Accepted releases, by whether the sheet has entries and whether the base is another. */
+static uint64_t released[2][2];
+
+/* ---- one call ---- */
+
+/* Documents 01 and 02: the numbers that any call on an image can have, accepted or refused by the reading. */
+static bool of_reading(int number)
+{
+	return number <= PAJURENDA_OVERLAP || number == PAJURENDA_RESERVED;
+}
+
+/* An image of one of refusal 1's lengths, and how far the call got with it. */
+static void count_edge(enum call call, uint32_t number)
+{
+	long_images += length[IMAGE] > 1048576 ? 1 : 0;
+	for (int edge = 0; call != SHEET && edge < EDGES; edge++)
+		if (length[IMAGE] == edge_length[edge] && number != PAJURENDA_SHORT) {
+			at_edge[call][edge]++;
+			past_reading[call][edge] += number == 0 || !of_reading((int)number);
+		}
+}
+
+/* One call's number. */
+void count_call(enum call call, uint32_t number)
+{
+	seen[call][number]++;
+	count_edge(call, number);
+}
+
+/* An accepted release by what it did: the sheet is in its buffer still. */
+void count_release(const struct second_released *r)
+{
+	if (r->number == 0)
+		released[get_number(model[OTHER], 12, 2) != 0][r->move != 0]++;
+}
+
+/* Which of refusal 15's lengths the sheet has; SHEET_LENGTHS where none. */
+static uint64_t length_turn(void)
+{
+	uint64_t turn = 0;
+	while (turn < SHEET_LENGTHS && sheet_length(turn) != length[OTHER])
+		turn++;
+	return turn;
+}
+
+/* A sheet by itself. */
+void count_sheet(const struct second_judged *r)
+{
+	const uint64_t turn = length_turn();
+	if (turn < SHEET_LENGTHS) {
+		of_length[turn]++;
+		right_length[turn] += r->number == 0 ? 1 : 0;
+	}
+	if (r->number == 0)
+		right_sheets[r->count == 0 ? 0 : r->count < 256 ? 1 : 2]++;
+}
+
+/* ---- the whole run ---- */
+
+/* Document 01: the numbers that a call can have. */
+static bool can_be(enum call call, int number)
+{
+	if (call == SHEET)
+		return number == PAJURENDA_ACCEPTED || number == PAJURENDA_SHEET || number == PAJURENDA_SHORT;
+	if (of_reading(number) || number == PAJURENDA_SHORT)
+		return true;
+	switch (call) {
+	case RELEASE: return number >= PAJURENDA_SHEET && number <= PAJURENDA_NEWBASE;
+	case SETTING: return number == PAJURENDA_FIELD;
+	case AUDIT: return number >= PAJURENDA_NEWBASE && number <= PAJURENDA_ROOM;
+	default: return false;
+	}
+}
+
+/* How often each number came, by call. */
+static void show_seen(enum call call)
+{
+	printf("%-8s", call_name[call]);
+	for (int number = 0; number <= PAJURENDA_SHORT; number++)
+		if (seen[call][number] != 0)
+			printf(" %d:%" PRIu64, number, seen[call][number]);
+	putchar('\n');
+}
+
+/* How often each step of a release acted; false where some way never came. */
+static bool show_released(void)
+{
+	printf("releases that set and moved: %" PRIu64 ", only set: %" PRIu64 ", only moved: %" PRIu64
+	       ", neither: %" PRIu64 "\n", released[1][1], released[1][0], released[0][1], released[0][0]);
+	return released[1][1] != 0 && released[1][0] != 0 && released[0][1] != 0 && released[0][0] != 0;
+}
+
+/* How often sheets by themselves were of each kind; false where a kind, one of the lengths, or an accepted one of 16 or 65535 bytes never came. */
+static bool show_sheets(void)
+{
+	uint64_t all = 0;
+	bool each = right_sheets[0] != 0 && right_sheets[1] != 0 && right_sheets[2] != 0 &&
+		    right_length[16] != 0 && right_length[SHORT_SHEETS + 5] != 0;
+	for (uint64_t turn = 0; turn < SHEET_LENGTHS; turn++) {
+		all += of_length[turn];
+		each = each && of_length[turn] != 0;
+		if (right_length[turn] != 0)
+			printf("sheets of %" PRIu64 " bytes: %" PRIu64 ", accepted: %" PRIu64 "\n",
+			       sheet_length(turn), of_length[turn], right_length[turn]);
+	}
+	printf("sheets of 0 to 20 and 65530 to 65540 bytes: %" PRIu64 "; accepted ones of any length without entries: %" PRIu64
+	       ", with 1 to 255: %" PRIu64 ", with 256: %" PRIu64 "\n", all, right_sheets[0], right_sheets[1], right_sheets[2]);
+	return each;
+}
+
+/* How often the lengths came that document 01 draws the line at. */
+static void show_lengths(void)
+{
+	for (int edge = 0; edge < EDGES; edge++) {
+		uint64_t all = 0, past = 0;
+		for (int call = 0; call < CALLS; call++)
+			all += at_edge[call][edge], past += past_reading[call][edge];
+		printf("images of %" PRIu64 " bytes: %" PRIu64 ", read without refusal: %" PRIu64 "\n",
+		       edge_length[edge], all, past);
+	}
+	printf("images above 1 MiB: %" PRIu64 "\n", long_images);
+}
+
+/* Whether a call had the numbers and lengths that the run must have; says what it had not. */
+static bool had_all(enum call call, bool numbers)
+{
+	bool all = true;
+	for (int number = 0; numbers && number <= PAJURENDA_SHORT; number++)
+		if (can_be(call, number) && seen[call][number] == 0) {
+			printf("missing: %s never gave %d\n", call_name[call], number);
+			all = false;
+		}
+	for (int edge = 0; call != SHEET && edge < EDGES; edge++)
+		if (at_edge[call][edge] == 0 || (edge == MOST && past_reading[call][edge] == 0)) {
+			printf("missing: %s on a right image of %" PRIu64 " bytes\n",
+			       call_name[call], edge_length[edge]);
+			all = false;
+		}
+	return all;
+}
+
+/* The counts, and whether the run had all it must have; a part of a run need not. */
+int conclude(uint64_t first, uint64_t count)
+{
+	bool all = true;
+	for (int call = 0; call < CALLS; call++)
+		show_seen((enum call)call);
+	show_lengths();
+	const bool every_way = show_released(), every_sheet = show_sheets();
+	for (int call = 0; first == 0 && count >= CALLS * EDGES && call < CALLS; call++)
+		all = had_all((enum call)call, count >= LONG) && all;
+	if (first == 0 && count >= LONG && !(every_way && every_sheet))
+		all = false;
+	printf("same: %" PRIu64 " calls%s\n", count, all ? "" : ", but not of every kind");
+	return all ? 0 : 1;
+}

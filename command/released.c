@@ -1,0 +1,59 @@
+/* A release asked of the library, and its refusals: which file each is about, and its values. */
+#include "released.h"
+
+#include "letters.h"
+#include "messages.h"
+#include "pajurenda.h"
+
+/* The image released in place, by an answer of PAJURENDA_RELEASE_BYTES; the answer's number. */
+uint32_t release_bytes(struct bytes *image, const struct bytes *sheet, uint64_t base,
+		       uint8_t *answer)
+{
+	return pajurenda_release(image->at, image->length, sheet->at, sheet->length, base, answer,
+				 PAJURENDA_RELEASE_BYTES);
+}
+
+/* The base of an image; 0 where it has none, and then the release has the image's own refusal. */
+uint64_t base_of(const struct bytes *image)
+{
+	uint8_t reading[PAJURENDA_READ_BYTES] = { 0 };
+	(void)pajurenda_read(image->at, image->length, reading, sizeof reading);
+	return pajurenda_field(reading, PAJURENDA_READ_BASE);
+}
+
+/* 17: the first entry that the library does not find as a setting of the image. */
+static enum status refuse_first_entry(const struct named *image, const struct named *sheet,
+				      uint64_t size)
+{
+	uint8_t answer[PAJURENDA_SETTING_BYTES] = { 0 };
+	for (uint64_t i = 0; i < number_at(&sheet->bytes, 12, 2); i++) {
+		const uint64_t at = PAJURENDA_EMPTY_SHEET + PAJURENDA_ENTRY_BYTES * i;
+		const struct asked asked = { .index = i,
+					     .offset = number_at(&sheet->bytes, at, 4),
+					     .length = number_at(&sheet->bytes, at + 4, 2) };
+		if (pajurenda_setting(image->bytes.at, image->bytes.length, asked.offset,
+				      asked.length, answer, sizeof answer) == PAJURENDA_FIELD)
+			return refuse_entry(sheet, &asked, size);
+	}
+	return fail_answer();
+}
+
+/* A release's refusal; a refused image is as it was, so its reading still has the values. */
+enum status refuse_release(uint32_t number, const struct named *image, const struct named *sheet,
+			   uint64_t base)
+{
+	uint8_t reading[PAJURENDA_READ_BYTES] = { 0 };
+	const uint32_t own =
+		pajurenda_read(image->bytes.at, image->bytes.length, reading, sizeof reading);
+	if (own != PAJURENDA_ACCEPTED)
+		return refuse_image(own, pajurenda_field(reading, PAJURENDA_READ_INDEX), image);
+	switch (number) {
+	case PAJURENDA_SHEET: return refuse_sheet(sheet);
+	case PAJURENDA_IDENTITY: return refuse_identity(sheet, image, reading);
+	case PAJURENDA_FIELD:
+		return refuse_first_entry(image, sheet,
+					  pajurenda_field(reading, PAJURENDA_READ_SIZE));
+	case PAJURENDA_NEWBASE: return refuse_new_base(image, base);
+	default: return fail_answer();
+	}
+}

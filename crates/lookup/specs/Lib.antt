@@ -1,0 +1,4 @@
+pub mod Setting
+pub mod SettingLaws
+pub mod Theorems
+pub mod Small

@@ -1,0 +1,95 @@
+-- The small image, released with the sample sheet to another base: its base word, its patch word and bytes 40 and 41 of its region are
+-- others, and no other byte is. The image of header revision 6 takes the sheet that has its extended number, and refuses the sample, which
+-- has 0.
+-- Assumes nothing.
+use Prim.Native.Nat.{ℕ, _≤_}
+use mathlib.Core.List.{List}
+use mathlib.Core.Path.{_≡_, refl, sym, ap, _∙_}
+use native.Mathlib.Omega.{arith}
+use lib.IntN.{negsuc}
+use lib.ListN.{length}
+use Rattle.facts.specs.Fact.{Holds, test, allBelow}
+use Rattle.facts.specs.Rules.{run}
+use Rattle.words.specs.Le.{le}
+use Rattle.words.specs.Put.{digit, put, add}
+use Rattle.words.specs.Number.{number, zeros}
+use Rattle.table.specs.Entry.{placeOf}
+use Rattle.table.specs.Passes.{place}
+use Rattle.image.specs.declared.Reading.{Reading}
+use Rattle.image.specs.Reading.{reading}
+use Rattle.image.specs.Small.{small, later, settingBytes, small-reads, six-reads, five-reads}
+use Rattle.moving.specs.declared.Moved.{Moved}
+use Rattle.moving.specs.Moves.{difference, movedTo}
+use Rattle.moving.specs.Moving.{refusedMove, acceptedMove, moveTo}
+use Rattle.moving.specs.Small.{small-move}
+use Rattle.sheet.specs.Sheet.{bodyAt}
+use Rattle.sheet.specs.Set.{copied, written, setBy, setImage}
+use Rattle.sheet.specs.Small.{sample, sampleFor, small-set}
+use Rattle.release.specs.Release.{releaseRules, releasing, twoSteps, releasedImage}
+use Rattle.release.specs.ReleaseLaws.{judged-shows, release-judged, release-changed}
+
+abbrev maker : List ℕ
+maker = small 0xFFF80000 0xFFF80040 (settingBytes 0 1)
+
+read : reading maker .number ≡ 0
+read = ap (λ (r : Reading). r .number) small-reads
+
+judged : run refusedMove (releaseRules (reading maker) (length maker) sample 0x00100000) ≡ acceptedMove (reading maker) 0x00100000
+unfolding run releaseRules test allBelow le sample number digit bodyAt small zeros
+judged = rw small-reads
+
+-- its answer: down by 4,293,394,432
+pub small-release : releasing maker sample 0x00100000 ≡ record { number = 0; index = 0; distance = negsuc 4293394431 }
+small-release = release-judged maker sample 0x00100000 read ∙ judged ∙ small-move
+
+goes : releasing maker sample 0x00100000 .number ≡ 0
+goes = ap (λ (m : Moved). m .number) small-release
+
+-- and the image afterwards
+pub small-released : releasedImage maker sample 0x00100000 ≡ small 0x00100000 0x00100040 (settingBytes 1 0)
+unfolding small number zeros digit le test placeOf place moveTo movedTo difference add put twoSteps setImage
+small-released =
+    release-changed maker sample 0x00100000 goes
+    ∙ ap (λ (l : List ℕ). moveTo l (reading maker) 0x00100000) small-set
+    ∙ ap (λ (r : Reading). moveTo (small 0xFFF80000 0xFFF80040 (settingBytes 1 0)) r 0x00100000) small-reads
+
+-- ---- the extended number
+
+abbrev six : List ℕ
+six = later 80 6 0x0201 (settingBytes 0 1)
+
+abbrev five : ℕ → List ℕ
+five any = later 79 5 any (settingBytes 0 1)
+
+six-read : reading six .number ≡ 0
+six-read = ap (λ (r : Reading). r .number) six-reads
+
+-- the sheet's own extended number is the image's
+pub six-applied : releasing six (sampleFor 0x0201) 0xFFF80000 .number ≡ 0
+unfolding run releaseRules test allBelow le number digit bodyAt later zeros
+six-applied = ap (λ (m : Moved). m .number) (release-judged six (sampleFor 0x0201) 0xFFF80000 six-read) ∙ rw six-reads
+
+-- an older sheet has 0, and each half alone is another too
+pub six-older : releasing six (sampleFor 0) 0xFFF80000 ≡ refusedMove 16 0
+unfolding run releaseRules test allBelow le number digit bodyAt
+six-older = release-judged six (sampleFor 0) 0xFFF80000 six-read ∙ rw six-reads
+
+pub six-low : releasing six (sampleFor 0x0200) 0xFFF80000 ≡ refusedMove 16 0
+unfolding run releaseRules test allBelow le number digit bodyAt
+six-low = release-judged six (sampleFor 0x0200) 0xFFF80000 six-read ∙ rw six-reads
+
+pub six-high : releasing six (sampleFor 0x0001) 0xFFF80000 ≡ refusedMove 16 0
+unfolding run releaseRules test allBelow le number digit bodyAt
+six-high = release-judged six (sampleFor 0x0001) 0xFFF80000 six-read ∙ rw six-reads
+
+-- at header revision 5 the older sheet is taken whatever stands at H+76, and one with a number is not
+five-read : (any : ℕ) → reading (five any) .number ≡ 0
+five-read any = ap (λ (r : Reading). r .number) (five-reads any)
+
+pub five-older : (any : ℕ) → releasing (five any) (sampleFor 0) 0xFFF80000 .number ≡ 0
+unfolding run releaseRules test allBelow le number digit bodyAt later zeros
+five-older any = ap (λ (m : Moved). m .number) (release-judged (five any) (sampleFor 0) 0xFFF80000 (five-read any)) ∙ rw (five-reads any)
+
+pub five-other : (any : ℕ) → releasing (five any) (sampleFor 0x0201) 0xFFF80000 ≡ refusedMove 16 0
+unfolding run releaseRules test allBelow le number digit bodyAt
+five-other any = release-judged (five any) (sampleFor 0x0201) 0xFFF80000 (five-read any) ∙ rw (five-reads any)

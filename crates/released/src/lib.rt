@@ -1,0 +1,1 @@
+// Definitions alone: what a release does, over the definitions of its promise.

@@ -1,0 +1,3 @@
+pub mod MoveStep
+pub mod SetStep
+pub mod TwoSteps
