@@ -128,11 +128,11 @@ static enum status audit_pair(struct audit *audit)
 }
 
 /* audit [--bytes | --ranges] VENDOR SHIPPED */
-enum status do_audit(char **word, unsigned options)
+enum status do_audit(char **word, const struct options *options)
 {
 	struct audit audit = { .vendor = { .name = word[0] }, .shipped = { .name = word[1] },
-			       .options = options };
-	if ((options & BYTES) != 0 && (options & RANGES) != 0)
+			       .options = options->given };
+	if ((audit.options & BYTES) != 0 && (audit.options & RANGES) != 0)
 		return fail_usage("audit", "--bytes and --ranges exclude each other", "", "");
 	if (!load(audit.vendor.name, &audit.vendor.bytes))
 		return FAILED;

@@ -9,7 +9,15 @@
 enum status { FINE = 0, UNEXPLAINED = 1, FAILED = 2 };
 
 /* The options, as bits. */
-enum option { HELP = 1, VERSION = 2, BYTES = 4, RANGES = 8, WORDS = 16, JSON = 32 };
+enum option {
+	HELP = 1, VERSION = 2, BYTES = 4, RANGES = 8, WORDS = 16, JSON = 32, OWNERS = 64, OWNER = 128
+};
+
+/* The options of a command line, and the values of those that have one; NULL where it isn't given. */
+struct options {
+	unsigned given;
+	const char *owners, *owner;
+};
 
 /* A file's bytes in memory; never at NULL once loaded, even where empty. */
 struct bytes {
@@ -22,19 +30,21 @@ struct command {
 	const char *name;
 	const char *words[5]; /* the words' names, up to a NULL; one in brackets may be missing */
 	unsigned options;
-	enum status (*run)(char **word, unsigned options);
+	enum status (*run)(char **word, const struct options *options);
 	const char *usage;
 	const char *brief;
 	const char *help;
 };
 
-enum status do_read(char **word, unsigned options);
-enum status do_release(char **word, unsigned options);
-enum status do_sheet_empty(char **word, unsigned options);
-enum status do_sheet_make(char **word, unsigned options);
-enum status do_sheet_show(char **word, unsigned options);
-enum status do_setting(char **word, unsigned options);
-enum status do_audit(char **word, unsigned options);
-enum status do_handoff(char **word, unsigned options);
+enum status do_read(char **word, const struct options *options);
+enum status do_release(char **word, const struct options *options);
+enum status do_sheet_empty(char **word, const struct options *options);
+enum status do_sheet_make(char **word, const struct options *options);
+enum status do_sheet_show(char **word, const struct options *options);
+enum status do_owners_all(char **word, const struct options *options);
+enum status do_owners_show(char **word, const struct options *options);
+enum status do_setting(char **word, const struct options *options);
+enum status do_audit(char **word, const struct options *options);
+enum status do_handoff(char **word, const struct options *options);
 
 #endif

@@ -78,12 +78,12 @@ static enum status show_list(const struct named *dump, bool json)
 }
 
 /* handoff [--json] DUMP */
-enum status do_handoff(char **word, unsigned options)
+enum status do_handoff(char **word, const struct options *options)
 {
 	struct named dump = { .name = word[0] };
 	if (!load_until(dump.name, &dump.bytes, MOST_DUMP, is_settled))
 		return FAILED;
-	const enum status status = show_list(&dump, (options & JSON) != 0);
+	const enum status status = show_list(&dump, (options->given & JSON) != 0);
 	free(dump.bytes.at);
 	return status;
 }

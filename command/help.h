@@ -4,8 +4,14 @@
 
 #include "command.h"
 
+/* Commands of two words with the same first: what is told where the second is missing or another. */
+struct group {
+	const char *name, *missing, *none;
+};
+
 const struct command *find_command(char **word);
-const struct command *find_group(const char *word);
+const struct group *find_group(const char *word);
+const struct command *first_of_group(const char *word);
 int count_words(const struct command *command);
 const char *find_instead(const char *word);
 enum status show_help(const struct command *command);

@@ -1,4 +1,4 @@
-/* The command for people: read, release, sheet, setting, audit and handoff over the library. */
+/* The command for people: subcommands over the library. */
 #define _XOPEN_SOURCE 700
 
 #include <errno.h>

@@ -8,34 +8,48 @@
 #include "help.h"
 #include "messages.h"
 
-/* The command line taken apart: the words in order, and the options as bits. */
+/* What is wrong with an option, the option between two texts; no option where nothing is. */
+struct fault {
+	const char *before, *option, *after;
+};
+
+/* The command line taken apart: the words in order, and the options. */
 struct line {
 	char **word;
 	int count;
-	int before;          /* how many of the words stand before `--` */
-	unsigned options;
-	const char *unknown; /* the first option that there is not, or NULL */
+	int before;         /* how many of the words stand before `--` */
+	struct options options;
+	struct fault fault; /* the first of them */
 };
 
-/* The options' names. */
-static const struct {
+/* An option's name; where a value goes with it, what is told when it is missing. */
+struct known {
 	const char *name;
 	unsigned option;
-} option_names[] = {
-	{ "-h", HELP },       { "--help", HELP },     { "--version", VERSION },
-	{ "--bytes", BYTES }, { "--ranges", RANGES }, { "--words", WORDS },
-	{ "--json", JSON },
+	const char *missing;
+};
+
+static const struct known option_names[] = {
+	{ "-h", HELP, NULL },       { "--help", HELP, NULL },     { "--version", VERSION, NULL },
+	{ "--bytes", BYTES, NULL }, { "--ranges", RANGES, NULL }, { "--words", WORDS, NULL },
+	{ "--json", JSON, NULL },
+	{ "--owners", OWNERS, " has no LIST after it" },
+	{ "--owner", OWNER, " has no N after it" },
 };
 
 #define OPTION_NAMES (sizeof option_names / sizeof option_names[0])
 
-/* The bit of an option; 0 where there is none. */
-static unsigned find_option(const char *name)
+/* The option that an argument is, up to a `=` where a value goes with it; NULL where it is none. */
+static const struct known *find_option(const char *argument)
 {
-	for (size_t i = 0; i < OPTION_NAMES; i++)
-		if (strcmp(name, option_names[i].name) == 0)
-			return option_names[i].option;
-	return 0;
+	for (size_t i = 0; i < OPTION_NAMES; i++) {
+		const struct known *known = &option_names[i];
+		const size_t length = strlen(known->name);
+		if (strncmp(argument, known->name, length) == 0 &&
+		    (argument[length] == 0 || (argument[length] == '=' && known->missing != NULL)))
+			return known;
+	}
+	return NULL;
 }
 
 /* The name of the first option among the bits. */
@@ -48,15 +62,47 @@ static const char *name_option(unsigned options)
 	return name;
 }
 
-/* One argument before `--`: an option, or a word. `-` alone is a word. */
-static void take_argument(struct line *line, char *argument)
+/* A word that could be an option. `-` alone is none. */
+static bool is_dashed(const char *word)
 {
-	const unsigned option = find_option(argument);
-	if (argument[0] != '-' || argument[1] == 0)
-		line->word[line->count++] = argument;
-	else if (option == 0 && line->unknown == NULL)
-		line->unknown = argument;
-	line->options |= option;
+	return word[0] == '-' && word[1] != 0;
+}
+
+/* A fault of an option, unless one was found before. */
+static void note(struct line *line, const char *before, const char *option, const char *after)
+{
+	if (line->fault.option == NULL)
+		line->fault = (struct fault){ before, option, after };
+}
+
+/* The value of an option, after its `=` or as the next argument; how many arguments more it takes. */
+static int take_value(struct line *line, const struct known *known, char **argument)
+{
+	const char *inside = strchr(argument[0], '=');
+	const char *value = inside != NULL ? inside + 1 : argument[1];
+	const char **place = known->option == OWNERS ? &line->options.owners : &line->options.owner;
+	if (inside == NULL && (value == NULL || is_dashed(value))) {
+		note(line, "", known->name, known->missing);
+		return 0;
+	}
+	if (*place != NULL)
+		note(line, "", known->name, " is given twice");
+	*place = value;
+	return inside == NULL ? 1 : 0;
+}
+
+/* One argument before `--`: an option, or a word; how many arguments more it takes. */
+static int take_argument(struct line *line, char **argument)
+{
+	const struct known *known = find_option(argument[0]);
+	if (!is_dashed(argument[0]))
+		line->word[line->count++] = argument[0];
+	else if (known == NULL)
+		note(line, "unknown option ", argument[0], "");
+	if (known == NULL)
+		return 0;
+	line->options.given |= known->option;
+	return known->missing == NULL ? 0 : take_value(line, known, argument);
 }
 
 /* The words stay in the array they came in, at its start, and end with a NULL as it does. */
@@ -65,7 +111,7 @@ static struct line take_apart(int count, char **argument)
 	struct line line = { .word = argument };
 	int i = 0;
 	for (; i < count && strcmp(argument[i], "--") != 0; i++)
-		take_argument(&line, argument[i]);
+		i += take_argument(&line, argument + i);
 	line.before = line.count;
 	for (i++; i < count; i++)
 		line.word[line.count++] = argument[i];
@@ -102,7 +148,7 @@ static enum status run_with(const struct command *command, const struct line *li
 		return fail_missing(command, given);
 	if (word[given] != NULL)
 		return fail_usage(command->name, "one word too many: \"", word[given], "\"");
-	return command->run(word, line->options);
+	return command->run(word, &line->options);
 }
 
 /* A word that names no subcommand: one that is gone, a group's first word, or any other. */
@@ -111,11 +157,12 @@ static enum status fail_unknown(char **word)
 	const char *instead = find_instead(word[0]);
 	if (instead != NULL)
 		return fail_gone(word[0], instead);
-	if (find_group(word[0]) == NULL)
+	const struct group *group = find_group(word[0]);
+	if (group == NULL)
 		return fail_usage(NULL, "unknown command \"", word[0], "\"");
 	if (word[1] == NULL)
-		return fail_usage(word[0], "empty, make or show is missing", "", "");
-	return fail_usage(word[0], "\"", word[1], "\" is none of empty, make and show");
+		return fail_usage(word[0], group->missing, "", "");
+	return fail_usage(word[0], "\"", word[1], group->none);
 }
 
 /* help [COMMAND]; help itself has the general help. */
@@ -126,7 +173,7 @@ static enum status help_on(const struct line *line)
 	const struct command *command = general ? NULL : find_command(word);
 	const int used = command == NULL ? 1 : count_words(command);
 	if (!general && command == NULL)
-		command = find_group(word[0]);
+		command = first_of_group(word[0]);
 	if (!general && command == NULL)
 		return fail_unknown(word);
 	if (line->count > 1 + used)
@@ -137,7 +184,7 @@ static enum status help_on(const struct line *line)
 /* Help on a subcommand of so many words is asked for: by an option, or by the only word more. */
 static bool wants_help(const struct line *line, int words)
 {
-	return (line->options & HELP) != 0 ||
+	return (line->options.given & HELP) != 0 ||
 	       (line->count == words + 1 && line->before == line->count &&
 		strcmp(line->word[words], "help") == 0);
 }
@@ -146,7 +193,7 @@ static bool wants_help(const struct line *line, int words)
 static enum status run_named(const struct line *line)
 {
 	const struct command *command = find_command(line->word);
-	const struct command *group = find_group(line->word[0]);
+	const struct command *group = first_of_group(line->word[0]);
 	if (strcmp(line->word[0], "help") == 0)
 		return help_on(line);
 	if (command == NULL && group != NULL && wants_help(line, 1))
@@ -155,7 +202,7 @@ static enum status run_named(const struct line *line)
 		return fail_unknown(line->word);
 	if (wants_help(line, count_words(command)))
 		return show_help(command);
-	const unsigned others = line->options & ~command->options;
+	const unsigned others = line->options.given & ~command->options;
 	if (others != 0)
 		return fail_usage(command->name, "takes no option ", name_option(others), "");
 	return run_with(command, line);
@@ -167,12 +214,13 @@ enum status run_command(int count, char **word)
 	const struct line line = take_apart(count, word);
 	const struct command *command = line.count == 0 ? NULL : find_command(line.word);
 	const bool gone = line.count > 0 && find_instead(line.word[0]) != NULL;
-	if (line.unknown != NULL && !gone)
-		return fail_usage(command == NULL ? NULL : command->name, "unknown option ",
-				  line.unknown, "");
+	if (line.fault.option != NULL && !gone)
+		return fail_usage(command == NULL ? NULL : command->name, line.fault.before,
+				  line.fault.option, line.fault.after);
 	if (line.count > 0)
 		return run_named(&line);
-	if ((line.options & HELP) != 0)
+	if ((line.options.given & HELP) != 0)
 		return show_help(NULL);
-	return (line.options & VERSION) != 0 ? show_version() : fail_usage(NULL, "no command", "", "");
+	return (line.options.given & VERSION) != 0 ? show_version()
+						   : fail_usage(NULL, "no command", "", "");
 }

@@ -7,9 +7,10 @@ _pajurenda_word()
 	:*) echo commands ;;
 	help:0) echo topics ;;
 	sheet:0) echo sheets ;;
+	owners:0) echo lists ;;
 	release:2) echo bases ;;
 	read:0 | release:[013] | setting:0 | audit:[01] | handoff:0) echo files ;;
-	sheet\ empty:[01] | sheet\ make:[012] | sheet\ show:[01]) echo files ;;
+	sheet\ empty:[01] | sheet\ make:[012] | sheet\ show:[01] | owners\ all:[01] | owners\ show:[01]) echo files ;;
 	*) echo nothing ;;
 	esac
 }
@@ -22,6 +23,7 @@ _pajurenda_options()
 	read) echo '--words --help' ;;
 	audit) echo '--bytes --ranges --help' ;;
 	handoff) echo '--json --help' ;;
+	release) echo '--owners --owner --help' ;;
 	*) echo '--help' ;;
 	esac
 }
@@ -31,39 +33,61 @@ _pajurenda_take()
 {
 	if [[ -z $command ]]; then
 		command=$1
-	elif [[ $command == sheet ]]; then
-		command="sheet $1"
+	elif [[ $command == sheet || $command == owners ]]; then
+		command="$command $1"
 	else
 		words=$((words + 1))
 	fi
 }
 
+# what may stand in the place of the current word: the value of the option before it, an option, or a word
+_pajurenda_kind()
+{
+	case $value:$ended$current in
+	--owner:*) echo numbers ;;
+	--owners:*) echo files ;;
+	:-*) echo options ;;
+	*) _pajurenda_word "$command" "$words" ;;
+	esac
+}
+
+# one word before the current one, or the `=` between an option and its value
+_pajurenda_pass()
+{
+	if [[ -n $value ]]; then
+		[[ $1 == '=' ]] || value=''
+		return
+	fi
+	case $ended$1 in
+	--) ended=yes ;;
+	--owners | --owner) value=$1 ;;
+	-?*) ;;
+	*) _pajurenda_take "$1" ;;
+	esac
+}
+
 _pajurenda()
 {
-	local current=${COMP_WORDS[COMP_CWORD]} command='' words=0 ended='' offered='' i
+	local current=${COMP_WORDS[COMP_CWORD]} command='' words=0 ended='' offered='' value='' i
 	for ((i = 1; i < COMP_CWORD; i++)); do
-		case $ended${COMP_WORDS[i]} in
-		--) ended=yes ;;
-		-?*) ;;
-		*) _pajurenda_take "${COMP_WORDS[i]}" ;;
-		esac
+		_pajurenda_pass "${COMP_WORDS[i]}"
 	done
+	[[ -z $value || $current != '=' ]] || current=''
 	COMPREPLY=()
-	if [[ $ended$current == -* ]]; then
-		offered=$(_pajurenda_options "$command")
-	else
-		case $(_pajurenda_word "$command" "$words") in
-		commands) offered='read release sheet setting audit handoff help' ;;
-		topics) offered='read release sheet setting audit handoff' ;;
-		sheets) offered='empty make show' ;;
-		bases) offered='keep' ;;
-		files)
-			compopt -o filenames 2>/dev/null
-			mapfile -t COMPREPLY < <(compgen -f -- "$current")
-			return
-			;;
-		esac
-	fi
+	case $(_pajurenda_kind) in
+	options) offered=$(_pajurenda_options "$command") ;;
+	numbers) offered='1 2' ;;
+	commands) offered='read release sheet owners setting audit handoff help' ;;
+	topics) offered='read release sheet owners setting audit handoff' ;;
+	sheets) offered='empty make show' ;;
+	lists) offered='all show' ;;
+	bases) offered='keep' ;;
+	files)
+		compopt -o filenames 2>/dev/null
+		mapfile -t COMPREPLY < <(compgen -f -- "$current")
+		return
+		;;
+	esac
 	mapfile -t COMPREPLY < <(compgen -W "$offered" -- "$current")
 }
 

@@ -79,12 +79,12 @@ static enum status read_image(const struct named *image, unsigned options)
 }
 
 /* read [--words] IMAGE */
-enum status do_read(char **word, unsigned options)
+enum status do_read(char **word, const struct options *options)
 {
 	struct named image = { .name = word[0] };
 	if (!load(image.name, &image.bytes))
 		return FAILED;
-	const enum status status = read_image(&image, options);
+	const enum status status = read_image(&image, options->given);
 	free(image.bytes.at);
 	return status;
 }

@@ -17,6 +17,8 @@ struct asked {
 	uint64_t length;
 };
 
+struct owners;
+
 void say_length(const struct bytes *file);
 void say_bytes(const struct bytes *file, uint64_t at, size_t count);
 void begin_refusal(uint32_t number, const char *name);
@@ -28,6 +30,11 @@ enum status refuse_sheet(const struct named *sheet);
 enum status refuse_identity(const struct named *sheet, const struct named *image,
 			    const uint8_t *reading);
 enum status refuse_entry(const struct named *sheet, const struct asked *asked, uint64_t size);
+enum status refuse_range(const struct owners *owners, size_t index, uint64_t size);
+enum status refuse_rest(const struct owners *owners);
+enum status refuse_caller(const struct owners *owners, uint64_t owner);
+enum status refuse_byte(const struct named *sheet, const struct asked *asked, uint64_t offset,
+			const struct owners *owners, uint64_t owner);
 enum status refuse_setting(const struct named *image, const struct asked *asked, uint64_t size);
 enum status refuse_new_base(const struct named *image, uint64_t base);
 enum status refuse_shipped_base(const struct named *shipped, uint64_t position);

@@ -10,6 +10,14 @@
 #include "pajurenda.h"
 #include "released.h"
 
+/* The files of a release in memory, and what is asked of them. */
+struct releasing {
+	struct named image, sheet;
+	struct owners owners;
+	struct asking asking;
+	struct base base;
+};
+
 /* What a release shows: the base, how far it moved, how many entries of the sheet were set. */
 static void show_release(uint64_t base, const uint8_t *answer, const struct bytes *sheet)
 {
@@ -20,38 +28,61 @@ static void show_release(uint64_t base, const uint8_t *answer, const struct byte
 	printf("entries %" PRIu64 "\n", pajurenda_field(judged, PAJURENDA_SHEET_COUNT));
 }
 
-/* A loaded image released and saved. */
-static enum status release_to(struct named *image, const struct named *sheet, uint64_t base,
-			      const char *out)
+/* The loaded image released and saved. */
+static enum status release_to(struct releasing *r, const char *out)
 {
 	uint8_t answer[PAJURENDA_RELEASE_BYTES] = { 0 };
-	const uint32_t number = release_bytes(&image->bytes, &sheet->bytes, base, answer);
+	r->asking.image = &r->image;
+	r->asking.sheet = &r->sheet;
+	r->asking.owners = &r->owners;
+	r->asking.base = r->base.keep ? base_of(&r->image.bytes) : r->base.value;
+	const uint32_t number = release_by(&r->image.bytes, &r->asking, answer);
 	if (number != PAJURENDA_ACCEPTED)
-		return refuse_release(number, image, sheet, base);
-	if (!save(out, &image->bytes))
+		return refuse_release(number, &r->asking);
+	if (!save(out, &r->image.bytes))
 		return FAILED;
-	show_release(base, answer, &sheet->bytes);
+	show_release(r->asking.base, answer, &r->sheet.bytes);
 	return FINE;
 }
 
-/* release IMAGE SHEET BASE OUT */
-enum status do_release(char **word, unsigned options)
+/* The three files loaded, released, and let go. */
+static enum status release_files(struct releasing *r, const char *out)
 {
-	struct named image = { .name = word[0] }, sheet = { .name = word[1] };
-	struct base base = { .keep = false };
-	(void)options;
-	if (!take_base("release", word[2], &base))
-		return FAILED;
-	if (is_same_file(sheet.name, word[3]))
-		return fail_lost("release", "SHEET");
-	if (!load(image.name, &image.bytes))
-		return FAILED;
-	if (base.keep)
-		base.value = base_of(&image.bytes);
-	const enum status status = load(sheet.name, &sheet.bytes)
-					   ? release_to(&image, &sheet, base.value, word[3])
-					   : FAILED;
-	free(sheet.bytes.at);
-	free(image.bytes.at);
+	enum status status = FAILED;
+	if (load(r->image.name, &r->image.bytes) && load(r->sheet.name, &r->sheet.bytes) &&
+	    load_owners(r->owners.name, &r->owners))
+		status = release_to(r, out);
+	free_owners(&r->owners);
+	free(r->sheet.bytes.at);
+	free(r->image.bytes.at);
 	return status;
+}
+
+/* No list, or nobody who asks: what to type. */
+static enum status fail_unowned(const struct options *options)
+{
+	const char *missing = options->owners != NULL  ? "--owner N is"
+			      : options->owner != NULL ? "--owners LIST is"
+						       : "--owners LIST and --owner N are";
+	return fail_usage("release", "", missing,
+			  " missing, so nothing is released: LIST says whose each setting is, N is 1 or "
+			  "2, who releases; owners all IMAGE LIST writes the LIST that gives every "
+			  "setting to owner 1");
+}
+
+/* release --owners LIST --owner N IMAGE SHEET BASE OUT */
+enum status do_release(char **word, const struct options *options)
+{
+	struct releasing r = { .image = { .name = word[0] }, .sheet = { .name = word[1] },
+			       .owners = { .name = options->owners } };
+	if (options->owners == NULL || options->owner == NULL)
+		return fail_unowned(options);
+	if (!take_base("release", word[2], &r.base) ||
+	    !take_number("release", "--owner", options->owner, &r.asking.owner))
+		return FAILED;
+	if (is_same_file(r.sheet.name, word[3]))
+		return fail_lost("release", "SHEET");
+	if (is_same_file(r.owners.name, word[3]))
+		return fail_lost("release", "LIST");
+	return release_files(&r, word[3]);
 }

@@ -47,7 +47,7 @@ static enum status find_setting(const struct named *image, const struct asked *a
 }
 
 /* setting IMAGE OFFSET LENGTH */
-enum status do_setting(char **word, unsigned options)
+enum status do_setting(char **word, const struct options *options)
 {
 	struct named image = { .name = word[0] };
 	struct asked asked = { .index = 0 };

@@ -23,7 +23,7 @@ static enum status save_empty(struct named *image, const char *out)
 }
 
 /* sheet empty IMAGE OUT */
-enum status do_sheet_empty(char **word, unsigned options)
+enum status do_sheet_empty(char **word, const struct options *options)
 {
 	struct named image = { .name = word[0] };
 	(void)options;

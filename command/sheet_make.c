@@ -19,8 +19,8 @@ uint32_t ask(struct making *m)
 {
 	uint8_t answer[PAJURENDA_RELEASE_BYTES] = { 0 };
 	const struct bytes sheet = lay_out(m->draft);
-	return release_bytes(&m->copy, &sheet,
-			     pajurenda_field(m->reading, PAJURENDA_READ_BASE), answer);
+	return release_by_one(&m->copy, &sheet,
+			      pajurenda_field(m->reading, PAJURENDA_READ_BASE), answer);
 }
 
 /* ---- entries ---- */
@@ -155,7 +155,7 @@ static enum status make_of(struct making *m, struct named *text, const char *out
 }
 
 /* sheet make IMAGE TEXT OUT */
-enum status do_sheet_make(char **word, unsigned options)
+enum status do_sheet_make(char **word, const struct options *options)
 {
 	struct making m = { .image = { .name = word[0] } };
 	struct named text = { .name = word[1] };

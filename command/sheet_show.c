@@ -89,13 +89,12 @@ static enum status try_on_copy(const struct showing *showing)
 	struct bytes copy;
 	if (!copy_bytes(image, &copy))
 		return fail_no_memory(showing->image.name);
-	const uint64_t base = base_of(image);
+	const struct asking asking = { .image = &showing->image, .sheet = &showing->sheet,
+				       .base = base_of(image) };
 	uint8_t answer[PAJURENDA_RELEASE_BYTES] = { 0 };
-	const uint32_t number = release_bytes(&copy, &showing->sheet.bytes, base, answer);
+	const uint32_t number = release_by_one(&copy, &showing->sheet.bytes, asking.base, answer);
 	free(copy.at);
-	return number == PAJURENDA_ACCEPTED
-		       ? FINE
-		       : refuse_release(number, &showing->image, &showing->sheet, base);
+	return number == PAJURENDA_ACCEPTED ? FINE : refuse_release(number, &asking);
 }
 
 /* A loaded sheet judged and shown, beside a loaded image where there is one. */
@@ -112,7 +111,7 @@ static enum status show_sheet(struct showing *showing)
 }
 
 /* sheet show SHEET [IMAGE] */
-enum status do_sheet_show(char **word, unsigned options)
+enum status do_sheet_show(char **word, const struct options *options)
 {
 	struct showing showing = { .sheet = { .name = word[0] }, .image = { .name = word[1] },
 				   .beside = word[1] != NULL };

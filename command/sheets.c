@@ -98,5 +98,5 @@ bool move_alone(struct bytes *image, uint64_t base)
 	if (pajurenda_read(image->at, image->length, reading, sizeof reading) != PAJURENDA_ACCEPTED)
 		return false;
 	pajurenda_empty_sheet(reading, empty);
-	return release_bytes(image, &sheet, base, answer) == PAJURENDA_ACCEPTED;
+	return release_by_one(image, &sheet, base, answer) == PAJURENDA_ACCEPTED;
 }

@@ -21,11 +21,9 @@
 
 /* ---- the file ---- */
 
-/* A text in memory, with a byte after it for the last line's end; false after a message. */
-bool load_text(const char *name, struct bytes *file)
+/* A loaded text gets a byte after it for the last line's end; false after a message. */
+bool end_text(const char *name, struct bytes *file)
 {
-	if (!load(name, file))
-		return false;
 	uint8_t *at = file->length > PAJURENDA_MOST_IMAGE ? NULL : realloc(file->at, file->length + 1);
 	if (at != NULL) {
 		file->at = at;
@@ -35,6 +33,12 @@ bool load_text(const char *name, struct bytes *file)
 	free(file->at);
 	file->at = NULL;
 	return false;
+}
+
+/* A text in memory; false after a message. */
+bool load_text(const char *name, struct bytes *file)
+{
+	return load(name, file) && end_text(name, file);
 }
 
 /* All lines of a loaded text; the mark that some editors put before the first is passed. */

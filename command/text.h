@@ -20,6 +20,7 @@ struct field {
 	const char *other;
 };
 
+bool end_text(const char *name, struct bytes *file);
 bool load_text(const char *name, struct bytes *file);
 struct text text_of(const char *name, const struct bytes *file);
 char *next_line(struct text *text);

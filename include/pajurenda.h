@@ -9,15 +9,16 @@
  *
  * Each call writes its answer into the caller's answer buffer: 64-bit little-endian numbers at the
  * offsets named below, from the buffer's first byte. Bytes after the answer are kept. The call
- * returns the answer's number: 0 where accepted, else that of the refusal (images 1 to 20 and 22,
- * hand-off blocks 30 to 33). Where the answer buffer is shorter than the answer, the call returns
+ * returns the answer's number: 0 where accepted, else that of the refusal (images 1 to 20 and 22 to
+ * 24, hand-off blocks 30 to 33). Where the answer buffer is shorter than the answer, the call returns
  * PAJURENDA_SHORT and nothing at all is written anywhere.
  *
  * A refused call changes no byte of an image and no byte of a list.
  *
  * Small inline functions at the end read a field of an answer and a place of the audit's list, make
- * an image's empty sheet, take its version apart, and give each number its name and its rule in a
- * sentence, and each kind of block its name. C99 and later, and C++.
+ * an image's empty sheet and the owner list that gives all its settings to one owner, take its
+ * version apart, and give each number its name and its rule in a sentence, and each kind of block its
+ * name. C99 and later, and C++.
  */
 #ifndef PAJURENDA_H
 #define PAJURENDA_H
@@ -30,9 +31,9 @@ extern "C" {
 #endif
 
 /* The version of header and library: the whole, and its three numbers. */
-#define PAJURENDA_VERSION "0.9.0"
+#define PAJURENDA_VERSION "0.10.0"
 #define PAJURENDA_VERSION_MAJOR 0
-#define PAJURENDA_VERSION_MINOR 9
+#define PAJURENDA_VERSION_MINOR 10
 #define PAJURENDA_VERSION_PATCH 0
 
 /* The answer's number. A check is made only if all earlier ones passed. */
@@ -59,6 +60,8 @@ enum {
 	PAJURENDA_PAIR = 19,      /* the two images' lengths differ */
 	PAJURENDA_ROOM = 20,      /* more differences than places */
 	PAJURENDA_RESERVED = 22,  /* a patch entry's bits 30 to 28; with its index; after 12 */
+	PAJURENDA_OWNERS = 23,    /* the owner list, or a caller who is no owner; after 15 */
+	PAJURENDA_OWNER = 24,     /* a byte of the sheet that isn't the caller's; after 17 */
 	PAJURENDA_BLOCK = 30,     /* a hand-off block's header or length; after 32 */
 	PAJURENDA_FIRST = 31,     /* the first block isn't the handoff block of 56 bytes */
 	PAJURENDA_NOTHING = 32,   /* no byte is left where a block should stand; before 30 */
@@ -72,6 +75,8 @@ enum {
 	PAJURENDA_MOST_SHEET = 65535,    /* the longest sheet */
 	PAJURENDA_EMPTY_SHEET = 16,      /* the sheet without entries, and what stands before them */
 	PAJURENDA_ENTRY_BYTES = 8,       /* an entry of a sheet: offset (4), length (2), body (2) */
+	PAJURENDA_RANGE_BYTES = 8,       /* a range of an owner list: offset (4), length (2), owner (2) */
+	PAJURENDA_MOST_RANGES = 64,      /* the ranges of the longest owner list */
 	PAJURENDA_PLACE_BYTES = 4,       /* a place of the audit's list, little-endian */
 	PAJURENDA_STRAY = 16777216       /* what a stray's place has above its position */
 };
@@ -178,13 +183,20 @@ uint32_t pajurenda_read(const uint8_t *image, size_t length,
 
 /*
  * Releases an image in place: the sheet's settings, and the move of the base word and each patch
- * word to the new base; the image's own refusals, then 15, 16, 17, 18. The sheet is for an image by
- * three parts: identity (its bytes 0 to 7), revision (8 to 11) and extended number (14 and 15; older
- * sheets have 0 there). The empty sheet (pajurenda_empty_sheet) moves alone, the image's present
- * base sets alone. A base of 2^32 or more isn't legal; it is never cut down.
+ * word to the new base; the image's own refusals, then 15, 23, 16, 17, 24, 18. The sheet is for an
+ * image by three parts: identity (its bytes 0 to 7), revision (8 to 11) and extended number (14 and
+ * 15; older sheets have 0 there). The empty sheet (pajurenda_empty_sheet) moves alone, the image's
+ * present base sets alone. A base of 2^32 or more isn't legal; it is never cut down.
+ *
+ * The owner list says which setting bytes are whose: ranges of PAJURENDA_RANGE_BYTES (offset in the
+ * region, length, owner, as pajurenda_put_range writes them), none or up to PAJURENDA_MOST_RANGES, by
+ * ascending offset. There are two owners, 1 and 2; the call is made as one of them, and its sheet may
+ * set that owner's bytes alone. A byte in no range is nobody's. pajurenda_one_owner makes the list
+ * that gives every setting to one owner.
  */
 uint32_t pajurenda_release(uint8_t *image, size_t image_length,
 			   const uint8_t *sheet, size_t sheet_length, uint64_t base,
+			   const uint8_t *owners, size_t owners_length, uint64_t owner,
 			   uint8_t *answer, size_t answer_length);
 
 /* Judges a release sheet by itself, for no image: number 0 and what it is for, or refusal 15. */
@@ -312,6 +324,28 @@ static inline void pajurenda_empty_sheet(const uint8_t *answer, uint8_t *sheet)
 	}
 }
 
+/* A range of an owner list, PAJURENDA_RANGE_BYTES at a place of it. */
+static inline void pajurenda_put_range(uint8_t *at, uint32_t offset, uint16_t length, uint16_t owner)
+{
+	const uint64_t value = offset | (uint64_t)length << 32 | (uint64_t)owner << 48;
+	for (size_t i = 0; i < PAJURENDA_RANGE_BYTES; i++)
+		at[i] = (uint8_t)(value >> (8 * i));
+}
+
+/*
+ * The owner list that gives every setting of an image to one owner, by the answer of an accepted
+ * pajurenda_read. Its length: PAJURENDA_RANGE_BYTES, or 0 where the region has no setting and no byte
+ * is written.
+ */
+static inline size_t pajurenda_one_owner(const uint8_t *answer, uint16_t owner, uint8_t *owners)
+{
+	const uint64_t size = pajurenda_field(answer, PAJURENDA_READ_SIZE);
+	if (size <= 32)
+		return 0;
+	pajurenda_put_range(owners, 32, (uint16_t)(size - 32), owner);
+	return PAJURENDA_RANGE_BYTES;
+}
+
 /* The i-th place of the audit's list, counted from 0, as it stands there. */
 static inline uint32_t pajurenda_place(const uint8_t *places, size_t i)
 {
@@ -382,6 +416,8 @@ static inline const char *pajurenda_name(uint32_t number)
 	case PAJURENDA_PAIR: return "PAIR";
 	case PAJURENDA_ROOM: return "ROOM";
 	case PAJURENDA_RESERVED: return "RESERVED";
+	case PAJURENDA_OWNERS: return "OWNERS";
+	case PAJURENDA_OWNER: return "OWNER";
 	case PAJURENDA_BLOCK: return "BLOCK";
 	case PAJURENDA_FIRST: return "FIRST";
 	case PAJURENDA_NOTHING: return "NOTHING";
@@ -460,6 +496,12 @@ static inline const char *pajurenda_sentence(uint32_t number)
 	case PAJURENDA_NEWBASE:
 		return "the base to move to must be a multiple of 4096, "
 		       "base plus length at most 2^32";
+	case PAJURENDA_OWNERS:
+		return "an owner list must have at most 64 ranges of 8 bytes by ascending offset, none "
+		       "empty, none into the next, all in offsets 32 to z-1; each owner, and who asks, "
+		       "must be 1 or 2";
+	case PAJURENDA_OWNER:
+		return "every byte that the sheet sets must be in a range of the owner who asks";
 	case PAJURENDA_PAIR: return "the two images must be equally long";
 	case PAJURENDA_ROOM: return "the list must have a place for each difference";
 	case PAJURENDA_SHORT: return "the answer buffer must have room for the answer";

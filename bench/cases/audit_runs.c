@@ -93,7 +93,7 @@ static void ship(uint64_t base)
 	if (second_read(image, now.length).number != 0)
 		fail("a vendor's image that isn't whole");
 	memcpy(sheet, image, now.length);
-	if (second_release(sheet, now.length, empty, EMPTY_SHEET, base).number != 0)
+	if (second_release(sheet, now.length, empty, EMPTY_SHEET, base, owners, own_all(), 1).number != 0)
 		fail("the vendor's image can't be moved");
 	vendor_length = now.length;
 	shipped_length = now.length;

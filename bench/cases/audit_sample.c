@@ -87,7 +87,7 @@ static void build_vendor(void)
 static void ship_with(uint64_t base, const uint8_t *release, uint64_t length)
 {
 	memcpy(sheet, image, now.length);
-	if (second_release(sheet, now.length, release, length, base).number != 0)
+	if (second_release(sheet, now.length, release, length, base, owners, own_all(), 1).number != 0)
 		fail("the vendor's image can't be released");
 }
 

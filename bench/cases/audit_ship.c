@@ -13,7 +13,7 @@ void ship(uint64_t base)
 	uint8_t empty[EMPTY_SHEET];
 	empty_sheet(empty);
 	memcpy(sheet, image, now.length);
-	if (second_release(sheet, now.length, empty, EMPTY_SHEET, base).number != 0)
+	if (second_release(sheet, now.length, empty, EMPTY_SHEET, base, owners, own_all(), 1).number != 0)
 		fail("a shipped file that can't be moved");
 	settings = 0;
 	strays = 0;

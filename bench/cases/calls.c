@@ -65,21 +65,42 @@ void show(uint64_t len, uint64_t number, uint64_t index)
 	count_case(CALL_READ, r.number);
 }
 
-/* #105: "One call to release". */
-void show_release(uint64_t len, uint64_t other, uint64_t base, uint64_t number, uint64_t index)
+/* #105, #106: the second reader's release on copies; the image's copy stays, changed. */
+static struct second_released run_release(uint8_t *copy, const struct release *release)
 {
+	uint8_t *lent = copy_of(sheet, release->other);
+	uint8_t *list = copy_of(owners, release->list);
+	const struct second_released r = second_release(copy, release->len, lent, release->other, release->base,
+							list, release->list, release->caller);
+	free(lent);
+	free(list);
+	return r;
+}
+
+/* #106: who asks stands above the list's length, so both must fit 32 bits. */
+void show_owned(const struct release *release, uint64_t number, uint64_t index)
+{
+	if (release->list > OWNERS_SPACE || release->caller >= TWO32)
+		fail("a list or a caller that the records can't have");
+	const uint64_t len = release->len;
 	uint8_t *copy = copy_of(image, len);
-	uint8_t *lent = copy_of(sheet, other);
-	const struct second_released r = second_release(copy, len, lent, other, base);
+	const struct second_released r = run_release(copy, release);
 	check_aim(r.number, r.index, number, index);
-	send_case(&(struct order){ .call = CALL_RELEASE, .len = len, .other = other, .a = base });
+	send_case(&(struct order){ .call = CALL_RELEASE, .len = len, .other = release->other, .list = release->list,
+				   .a = release->base, .b = release->list | release->caller << 32 });
 	change_image(copy, len);
 	free(copy);
-	free(lent);
 	if (fprintf(answers, "%" PRIu64 " %" PRIu64 " %" PRId64 "\n", r.number, r.index, r.move) < 0)
 		fail("writing answers");
 	write_bytes(image, len);
 	count_case(CALL_RELEASE, r.number);
+}
+
+/* A release by owner 1, who has every setting. */
+void show_release(uint64_t len, uint64_t other, uint64_t base, uint64_t number, uint64_t index)
+{
+	show_owned(&(struct release){ .len = len, .other = other, .list = own_all(), .base = base, .caller = 1 },
+		   number, index);
 }
 
 /* A release that only moves; the sheet that stood in buffer 1 stands there again after it. */

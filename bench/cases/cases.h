@@ -1,4 +1,4 @@
-/* What the maker's files share: the plan of an image, the two buffers, and the four calls. */
+/* What the maker's files share: the plan of an image, the three buffers, and the four calls. */
 #ifndef BENCH_CASES_H
 #define BENCH_CASES_H
 
@@ -8,6 +8,7 @@
 #include <stdio.h>
 
 #define SPACE UINT64_C(131072)
+#define OWNERS_SPACE UINT64_C(4096)
 #define MOST 1025
 #define ANY UINT64_C(99)
 #define TWO24 UINT64_C(0x1000000)
@@ -79,14 +80,20 @@ extern const unsigned rule[RULES];
 #define SMALLS 8
 #define ARRANGEMENTS 11
 
-/* stream.c: the records, each case as its difference from what was sent before; 2 and 3 were calls before #105. */
-enum call { CALL_NONE = 0, CALL_READ = 1, CALL_SETTING = 4, CALL_AUDIT = 5, CALL_RELEASE = 6, CALLS };
+/* owner_list.c: buffer 2 (the owner list), one of its ranges, and the list that gives every setting to owner 1. */
+extern uint8_t owners[OWNERS_SPACE];
+void put_range(uint64_t i, uint64_t offset, uint64_t length, uint64_t owner);
+uint64_t own_all(void);
+
+/* stream.c: the records, each case as its difference from what was sent before; 2, 3 and 6 were calls before #105 and #106. */
+enum call { CALL_NONE = 0, CALL_READ = 1, CALL_SETTING = 4, CALL_AUDIT = 5, CALL_RELEASE = 7, CALLS };
 
 #define EMPTY_SHEET 16
 
+/* The bytes lent of each buffer, and two numbers. */
 struct order {
 	enum call call;
-	uint64_t len, other, a, b;
+	uint64_t len, other, list, a, b;
 };
 
 void open_stream(FILE *to);
@@ -95,13 +102,19 @@ void send_case(const struct order *order);
 void change_image(const uint8_t *bytes, uint64_t len);
 
 /* calls.c: one case of each call, with the number and index it is aimed at. */
-#define NUMBERS 23
+#define NUMBERS 25
 
 extern FILE *answers;
 extern uint64_t given[CALLS][NUMBERS];
 extern uint64_t explained;
 
+/* #106: what a release gets: the bytes lent of image, sheet and list, the base and who asks. */
+struct release {
+	uint64_t len, other, list, base, caller;
+};
+
 void show(uint64_t len, uint64_t number, uint64_t index);
+void show_owned(const struct release *release, uint64_t number, uint64_t index);
 void show_release(uint64_t len, uint64_t other, uint64_t base, uint64_t number, uint64_t index);
 void show_move(uint64_t len, uint64_t base, uint64_t number, uint64_t index);
 void show_apply(uint64_t len, uint64_t other, uint64_t number, uint64_t index);
@@ -109,12 +122,13 @@ void show_setting(uint64_t len, uint64_t offset, uint64_t size, uint64_t number)
 void show_audit(uint64_t len, uint64_t other, uint64_t places, uint64_t number, uint64_t index,
 		uint64_t settings, uint64_t strays);
 
-/* The four parts, and the three of the release part. */
+/* The four parts, and the four of the release part. */
 void read_part(void);
 void release_part(void);
 void release_moves(void);
 void release_sheets(void);
 void release_both(void);
+void release_owners(void);
 void setting_part(void);
 void audit_part(void);
 

@@ -247,4 +247,5 @@ void release_part(void)
 	release_moves();
 	release_sheets();
 	release_both();
+	release_owners();
 }

@@ -3,6 +3,8 @@
 
 #include <string.h>
 
+#define BUFFERS 3
+
 /* A run of bytes of one buffer. */
 struct run {
 	unsigned which;
@@ -10,9 +12,10 @@ struct run {
 };
 
 static FILE *records;
-static uint8_t *const buffer[2] = { image, sheet };
-static uint8_t sent[2][SPACE];
-static bool known[2][SPACE];
+static uint8_t *const buffer[BUFFERS] = { image, sheet, owners };
+static const uint64_t space[BUFFERS] = { SPACE, SPACE, OWNERS_SPACE };
+static uint8_t sent[BUFFERS][SPACE];
+static bool known[BUFFERS][SPACE];
 
 /* Where the records go. */
 void open_stream(FILE *to)
@@ -26,9 +29,10 @@ void begin_part(uint64_t first_number, bool all_zero)
 	seed(first_number);
 	memset(image, 0, SPACE);
 	memset(sheet, 0, SPACE);
+	memset(owners, 0, OWNERS_SPACE);
 	memset(sent, 0, sizeof sent);
 	for (uint64_t i = 0; i < SPACE; i++)
-		known[0][i] = known[1][i] = all_zero;
+		known[0][i] = known[1][i] = known[2][i] = all_zero;
 }
 
 /* Sources: all numbers are little-endian. */
@@ -79,18 +83,18 @@ static bool next_run(struct run *run, uint64_t from, uint64_t limit)
 	return true;
 }
 
-/* A case: the missing bytes of both buffers, the last record carrying the call. */
+/* A case: the missing bytes of all buffers, the last record carrying the call. */
 void send_case(const struct order *order)
 {
 	static const struct order nothing = { .call = CALL_NONE };
-	const uint64_t limit[2] = { order->len, order->other };
+	const uint64_t limit[BUFFERS] = { order->len, order->other, order->list };
 	struct run last = { .which = 0 };
 	bool any = false;
 
-	if (order->len > SPACE || order->other > SPACE)
-		fail("more than the buffer");
-	for (unsigned which = 0; which < 2; which++) {
+	for (unsigned which = 0; which < BUFFERS; which++) {
 		struct run run = { .which = which };
+		if (limit[which] > space[which])
+			fail("more than the buffer");
 		while (next_run(&run, run.at + run.count, limit[which])) {
 			if (any)
 				write_record(&last, &nothing);

@@ -56,7 +56,7 @@ try_changed_sheets() {
 	while read -r bytes; do
 		# shellcheck disable=SC2086
 		changed "$work/sheet" "$i/any" $bytes
-		answer "$i/any" release "$vendor" "$i/any" keep "$o/any"
+		answer "$i/any" release "$all" --owner=1 "$vendor" "$i/any" keep "$o/any"
 	done <"$work/drawn"
 }
 
@@ -94,6 +94,55 @@ try_changed_texts() {
 	if [ "$made" -lt 4 ] || [ "$made" -gt 76 ]; then fail "$made of 80 changed texts are taken"; fi
 }
 
+# shown_or_told: owners show of the list any: what it shows is a list that shows the same, or one line names the line or range at fault
+shown_or_told() {
+	got=0
+	run owners show "$i/any" "$vendor" >"$work/out" 2>"$work/err" || got=$?
+	if [ "$got" -eq 0 ]; then
+		shown=$((shown + 1))
+		says
+		cp "$work/out" "$work/shown"
+		works 0 owners show "$work/shown" "$vendor"
+		same "$work/out" "$work/shown"
+		return
+	fi
+	status_was 2
+	[ "$(wc -l <"$work/err")" -eq 1 ] || fail "not one line on standard error"
+	grep -q -a -e "^pajurenda: $i/any: line [1-9]: ." -e "^$i/any: refused 23 OWNERS: .*: line [1-9]: ." \
+		-e "^$i/any: refused 23 OWNERS: .*: taken as bytes (it has a 0), [0-9]* bytes: range" "$work/err" || fail "no line and no range is named"
+	passed
+}
+
+# owner lists, as text and as bytes, with some of their bytes changed, the last three so that they are lists still; those that are bytes also cut
+try_changed_lists() {
+	printf '# the board group\n32 8 1\n0x28 2 2 # and why\n\n96 16 1\n112 100 2\n' >"$work/good_list"
+	put_ranges "$work/good_ranges" 32 8 1 40 2 2 96 16 1 112 100 2
+	for form in list ranges; do
+		file=$work/good_$form
+		awk -v seed="$seed" -v length_of="$(wc -c <"$file")" -v form="$form" 'BEGIN { srand(seed)
+			count = split(form == "ranges" ? "0 1 2 3 8 16 32 40 96 112 255" : "9 10 13 32 35 48 49 50 51 57 65 70 97 120", one, " ")
+			for (n = 0; n < 70; n++) {
+				line = ""
+				for (m = int(rand() * 2); m >= 0; m--)
+					line = line " " int(rand() * length_of) " " (rand() < 0.1 ? int(rand() * 256) : one[1 + int(rand() * count)])
+				print line }
+			print form == "ranges" ? "6 2\n14 1\n20 8" : "2 120\n3 97\n4 48" }' >"$work/drawn"
+		shown=0
+		while read -r bytes; do
+			# shellcheck disable=SC2086
+			changed "$file" "$i/any" $bytes
+			what="owners show, $form, bytes $bytes"
+			shown_or_told
+		done <"$work/drawn"
+		if [ "$shown" -lt 3 ] || [ "$shown" -gt 70 ]; then fail "$shown of 73 changed lists are taken"; fi
+	done
+	for length in 2 3 4 5 6 7 9 15 17 23 25 31; do
+		head -c "$length" "$work/good_ranges" >"$i/any"
+		answer "$i/any" owners show "$i/any" "$vendor"
+		[ "$number" -eq 23 ] || fail "refused $number, not 23"
+	done
+}
+
 # cut at each place where something starts or ends, and files of random bytes
 try_cut() {
 	for length in 72 73 95 96 97 99 100 101 127 128 131 132 171 172 184 199 200 201 4095 4096 4102 4496 8188 8191; do
@@ -105,7 +154,7 @@ try_cut() {
 	for length in 0 1 16 71 72 100 1000 100000; do
 		head -c "$length" /dev/urandom >"$i/any"
 		answer "$i/any" read "$i/any"
-		answer "$i/any" release "$vendor" "$i/any" keep "$o/any"
+		answer "$i/any" release "$all" --owner=1 "$vendor" "$i/any" keep "$o/any"
 	done
 }
 
@@ -128,5 +177,6 @@ try_any_ranges() {
 try_changed
 try_changed_sheets
 try_changed_texts
+try_changed_lists
 try_cut
 try_any_ranges

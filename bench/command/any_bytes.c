@@ -7,6 +7,7 @@
 #include <stdlib.h>
 #include <string.h>
 
+#include "owners.h"
 #include "pajurenda.h"
 #include "refusals.h"
 
@@ -43,6 +44,16 @@ static struct bytes draw(const struct bytes *image)
 	return bytes;
 }
 
+/* The refusals of an owner list and of a sheet beside it. */
+static void refuse_lists(const struct named *file, const struct named *other, const struct asked *asked)
+{
+	const struct owners owners = { .name = other->name, .list = other->bytes };
+	refuse_range(&owners, below(below(2) == 0 ? 3 : SIZE_MAX / 16), below(65537));
+	refuse_rest(&owners);
+	refuse_caller(&owners, below(UINT64_MAX));
+	refuse_byte(file, asked, below(below(2) == 0 ? 300 : UINT64_MAX), &owners, below(4));
+}
+
 /* Every refusal, whether or not it is this file's. */
 static void refuse_all(const struct named *file, const struct named *other)
 {
@@ -56,6 +67,7 @@ static void refuse_all(const struct named *file, const struct named *other)
 	refuse_sheet(file);
 	refuse_identity(file, other, reading);
 	refuse_entry(file, &asked, below(65537));
+	refuse_lists(file, other, &asked);
 	refuse_setting(file, &asked, below(65537));
 	refuse_new_base(file, below(UINT64_MAX));
 	refuse_shipped_base(file, below(below(2) == 0 ? 300 : UINT64_MAX));

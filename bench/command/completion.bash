@@ -18,14 +18,15 @@ offers() {
 	count=$((count + 1))
 }
 
-offers 'audit|handoff|help|read|release|setting|sheet' ''
+offers 'audit|handoff|help|owners|read|release|setting|sheet' ''
 offers 'audit' a
 offers 'read|release' r
 offers 'setting|sheet' s
 offers '--help|--version' -
 offers '--version' --v
-offers 'audit|handoff|read|release|setting|sheet' help ''
+offers 'audit|handoff|owners|read|release|setting|sheet' help ''
 offers '' help sheet ''
+offers '' help owners ''
 offers 'handoff|help' h
 offers '' help read ''
 offers '--help|--words' read -
@@ -33,7 +34,7 @@ offers '--bytes|--help|--ranges' audit -
 offers '--ranges' audit image --r
 offers '--ranges' --bytes audit image --r
 offers '--help|--json' handoff -
-offers '--help' release -
+offers '--help|--owner|--owners' release -
 offers '--help' sheet -
 offers '--help' sheet make -
 offers '--help' setting -
@@ -61,6 +62,35 @@ offers '' sheet make image image image ''
 offers 'a b|image' sheet show image ''
 offers '' sheet show image image ''
 offers '' sheet nonsense ''
+offers 'owners' o
+offers 'all|show' owners ''
+offers 'show' owners s
+offers '--help' owners all -
+offers 'a b|image' owners all ''
+offers 'a b|image' owners all image ''
+offers '' owners all image image ''
+offers 'a b|image' owners show ''
+offers 'a b|image' owners show image ''
+offers '' owners show image image ''
+offers '' owners nonsense ''
+offers 'a b|image' release --owners ''
+offers 'image' release --owners i
+offers '' release --owners -
+offers 'image' release --owners = i
+offers 'a b|image' release --owners =
+offers '1|2' release --owner ''
+offers '2' release --owner 2
+offers '1|2' release --owner =
+offers '1' release --owner = 1
+offers 'a b|image' release --owners image ''
+offers 'a b|image' release --owners image --owner 1 image ''
+offers 'keep' release --owners = image --owner = 1 image image ''
+offers 'keep' --owners keep --owner 2 release image image ''
+offers 'a b|image' release image --owner 2 image keep ''
+offers '' release --owners image --owner 1 image image keep image ''
+offers '--owner|--owners' release --owners image --o
+offers 'keep' release -- --owners image ''
+offers 'a b|image' release -- image ''
 offers 'a b|image' -- sheet show ''
 offers 'a b|image' setting ''
 offers '' setting image ''

@@ -82,21 +82,21 @@ try_short_headers() {
 	values 5 b "$short" read b
 	values 5 b "$short" setting b 40 2
 	values 5 b "$short" audit b s
-	keeps "$o" values 5 b "$short" release b "$work/nothing" 0 "$o/out"
-	keeps "$o" values 5 b "$short" release b good keep "$o/out"
+	keeps "$o" values 5 b "$short" release "$all" --owner=1 b "$work/nothing" 0 "$o/out"
+	keeps "$o" values 5 b "$short" release "$all" --owner=1 b good keep "$o/out"
 }
 
 # applies IMAGE SHEET: the two settings of the sample's sheet and no other byte
 applies() {
 	poked "$1" "$work/expected" 4136 '\001\000'
-	works 0 release "$1" "$2" keep "$o/applied"
+	works 0 release "$all" --owner=1 "$1" "$2" keep "$o/applied"
 	prints 'base 0xFFF80000' 'move 0' 'entries 1'
 	same "$o/applied" "$work/expected"
 }
 
 # not_for SHEET PARTS IMAGE PARTS: 16 with both sides in full, nothing written
 not_for() {
-	keeps "$o" refuses 16 "$1" "$rule_identity: the sheet is for $2, $3 is $4" release "$3" "$1" keep "$o/out"
+	keeps "$o" refuses 16 "$1" "$rule_identity: the sheet is for $2, $3 is $4" release "$all" --owner=1 "$3" "$1" keep "$o/out"
 }
 
 # the sheet of an image is for no image that differs in a byte of the number
@@ -141,11 +141,11 @@ try_around_numbers() {
 	longer n 6 80 170 187
 	sheet_of b 1 2
 	head -c 25 b >b2
-	keeps "$o" values 15 b2 'the file has 25 bytes, m 1, the last body ends at 26' release n b2 keep "$o/out"
+	keeps "$o" values 15 b2 'the file has 25 bytes, m 1, the last body ends at 26' release "$all" --owner=1 n b2 keep "$o/out"
 	changed b b2 16 31
 	not_for b2 "$(parts 0x0201 1.2.515.260)" n "$(parts 0xBBAA 1.2.47875.43524)"
 	changed good b 14 170 15 187 16 31
-	keeps "$o" values 17 b "entry 0 (counted from 0) has offset 31 length 2, the region's size z is 400" release n b keep "$o/out"
+	keeps "$o" values 17 b "entry 0 (counted from 0) has offset 31 length 2, the region's size z is 400" release "$all" --owner=1 n b keep "$o/out"
 	changed good b 14 170 15 187 8 5
 	not_for b '54524541542D3031 "TREAT-01" revision 0x01020305 extended 0xBBAA version 1.2.47875.43525' \
 		n "$(parts 0xBBAA 1.2.47875.43524)"
@@ -158,7 +158,7 @@ try_around_numbers() {
 try_number_stays() {
 	longer n 6 80 170 187
 	works 0 sheet empty n t
-	works 0 release n t 0x00100000 t2
+	works 0 release "$all" --owner=1 n t 0x00100000 t2
 	mv t2 t
 	works 0 read t
 	grep -qx 'extended 0xBBAA' "$work/out" || fail "another extended number after a move"

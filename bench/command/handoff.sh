@@ -299,11 +299,12 @@ try_order() {
 
 # ---- any bytes ----
 
-# one to three bytes of the list of all kinds changed: whatever it says, it says so in both forms
+# one to three bytes of the list of all kinds changed, among them for certain a 31, a 33 and a 30: whatever it says, it says so in both forms
 try_any_lists() {
 	awk -v seed="$seed" -v count=60 -v low=0 -v high=384 -v other=58 "$draw" >"$work/drawn"
 	awk -v seed="$seed" -v count=60 'BEGIN { srand(seed + 1); split("0 56 58 106 162 258 282 322 378", at)
 		for (n = 0; n < count; n++) print at[1 + int(rand() * 9)], int(rand() * 256) }' >>"$work/drawn"
+	printf '0 2\n58 40\n58 44\n' >>"$work/drawn"
 	numbers=
 	while read -r bytes; do
 		# shellcheck disable=SC2086

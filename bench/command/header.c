@@ -16,11 +16,11 @@ static void check(int right, const char *what)
 	wrong++;
 }
 
-/* The names, 0 to 22; 21 has none. */
+/* The names, 0 to 24; 21 has none. */
 static const char *const names[] = {
 	"ACCEPTED", "LENGTH", "VOLUME", "FILE", "SECTION", "HEADER", "SIZE", "COMPONENT", "BASE", "TABLE", "CONFIG",
 	"UPD", "TYPE", "PLACE", "OVERLAP", "SHEET", "IDENTITY", "FIELD", "NEWBASE", "PAIR", "ROOM",
-	"unknown", "RESERVED",
+	"unknown", "RESERVED", "OWNERS", "OWNER",
 };
 
 /* The names of 30 to 33, and of the kinds of blocks. */
@@ -56,7 +56,7 @@ static void try_handoff(void)
 /* Each number has its name and a sentence that no other has. */
 static void try_numbers(void)
 {
-	for (uint32_t i = 0; i <= 22; i++) {
+	for (uint32_t i = 0; i <= 24; i++) {
 		check(strcmp(pajurenda_name(i), names[i]) == 0, "a name");
 		check(pajurenda_has_index(i) == (i == 12 || i == 13 || i == 14 || i == 22), "an index");
 		if (i == 21)
@@ -67,7 +67,7 @@ static void try_numbers(void)
 	}
 	check(strcmp(pajurenda_name(PAJURENDA_SHORT), "SHORT") == 0, "the name of 100");
 	check(strcmp(pajurenda_sentence(PAJURENDA_SHORT), "unknown") != 0, "the sentence of 100");
-	static const uint32_t others[] = { 21, 23, 29, 34, 99, 101, 65536, 65537, 4294967295u };
+	static const uint32_t others[] = { 21, 25, 29, 34, 99, 101, 65536, 65537, 4294967295u };
 	for (size_t i = 0; i < sizeof others / sizeof others[0]; i++) {
 		check(strcmp(pajurenda_name(others[i]), "unknown") == 0, "a name of no answer");
 		check(strcmp(pajurenda_sentence(others[i]), "unknown") == 0, "a sentence of no answer");
@@ -125,6 +125,27 @@ static void try_sheets(void)
 	check(PAJURENDA_RELEASE_MOVE + 8 == PAJURENDA_RELEASE_BYTES, "the length of a release's answer");
 }
 
+/* A range is eight bytes, each number's low byte first; all settings of a reading are one range or none. */
+static void try_owners(void)
+{
+	static const uint8_t wanted[] = { 0x44, 0x33, 0x22, 0x11, 0x66, 0x55, 0x88, 0x77, 0x99 };
+	uint8_t answer[PAJURENDA_READ_BYTES] = { 0 }, list[PAJURENDA_RANGE_BYTES + 1];
+	memset(list, 0x99, sizeof list);
+	pajurenda_put_range(list, 0x11223344, 0x5566, 0x7788);
+	check(memcmp(list, wanted, sizeof wanted) == 0 && sizeof list == sizeof wanted, "a range");
+	answer[PAJURENDA_READ_SIZE + 2] = 1;
+	check(pajurenda_one_owner(answer, 2, list) == 8, "the length of all settings of the largest region");
+	check(memcmp(list, "\x20\0\0\0\xE0\xFF\2\0\x99", 9) == 0, "all settings of the largest region");
+	answer[PAJURENDA_READ_SIZE + 2] = 0;
+	for (unsigned size = 0; size < 256; size++) {
+		answer[PAJURENDA_READ_SIZE] = (uint8_t)size;
+		memset(list, 0x99, sizeof list);
+		check(pajurenda_one_owner(answer, 1, list) == (size > 32 ? 8u : 0u), "the length of all settings");
+		check(size > 32 ? list[0] == 32 && list[4] == size - 32 && list[6] == 1 : list[0] == 0x99, "all settings");
+	}
+	check(PAJURENDA_MOST_RANGES == 64, "the most ranges");
+}
+
 /* The parts of a version from its two numbers. */
 static void try_parts(uint64_t revision, uint64_t extended, const char *version)
 {
@@ -177,6 +198,7 @@ int main(void)
 	try_fields();
 	try_image_version();
 	try_sheets();
+	try_owners();
 	try_place(0, 0, 0);
 	try_place(16777215, 0, 16777215);
 	try_place(16777216, 1, 0);

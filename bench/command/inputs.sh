@@ -4,6 +4,8 @@
 
 printf 'TREAT-01\004\003\002\001\001\000\000\000\050\000\000\000\002\000\030\000\001\000' >"$work/sheet"
 printf 'TREAT-01\004\003\002\001\000\000\000\000' >"$work/nothing"
+printf '32 368 1\n' >"$work/all"
+all=--owners=$work/all
 printf 'what was there before\n' >"$work/old"
 : >"$work/empty"
 head -c 71 "$vendor" >"$work/71"

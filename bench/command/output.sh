@@ -42,11 +42,14 @@ try_unheard() {
 	unheard read "$work/empty"
 	unheard sheet show "$work/sheet"
 	unheard sheet show "$work/sheet" "$vendor"
+	unheard owners show "$work/all" "$vendor"
+	unheard owners all "$vendor" "$o/heard"
+	grep -qx '32 368 1' "$o/heard" || fail "no list where standard output is lost"
 	unheard sheet empty "$vendor" "$o/heard"
 	same "$o/heard" "$work/nothing"
 	unheard sheet make "$vendor" /dev/null "$o/heard"
 	same "$o/heard" "$work/nothing"
-	unheard release "$vendor" "$work/nothing" 0x00100000 "$o/heard"
+	unheard release "$all" --owner=1 "$vendor" "$work/nothing" 0x00100000 "$o/heard"
 	same "$o/heard" "$o/moved"
 }
 
@@ -55,11 +58,11 @@ try_all_closed() {
 	rm "$o/heard"
 	what="release, all standard files closed"
 	got=0
-	run release "$vendor" "$work/nothing" 0x00100000 "$o/heard" <&- >&- 2>&- || got=$?
+	run release "$all" --owner=1 "$vendor" "$work/nothing" 0x00100000 "$o/heard" <&- >&- 2>&- || got=$?
 	status_was 2
 	same "$o/heard" "$o/moved"
 	got=0
-	run release "$vendor" "$work/nothing" 1 "$o/heard" <&- >&- 2>&- || got=$?
+	run release "$all" --owner=1 "$vendor" "$work/nothing" 1 "$o/heard" <&- >&- 2>&- || got=$?
 	status_was 2
 	same "$o/heard" "$o/moved"
 }

@@ -77,7 +77,7 @@ try_joined_ranges() {
 # words side by side, in another order than their entries, and one at the image's end
 try_word_ranges() {
 	poked "$vendor" "$i/w" 184 '\210\023\000\000\204\023\000\000\214\023\000\000'
-	works 0 release "$i/w" "$work/nothing" 0x00345000 "$i/t"
+	works 0 release "$all" --owner=1 "$i/w" "$work/nothing" 0x00345000 "$i/t"
 	flip "$i/t" 4995 5004
 	flip "$i/t" 8186 8191
 	ranges_are "$i/w" "$i/t" 1 'X 4995..4995 length 1 elsewhere' 'X 4996..4999 length 4 patch word 1' 'X 5000..5003 length 4 patch word 0' \

@@ -193,11 +193,11 @@ try_own_in_calls() {
 	values 14 r "$entry" audit r s
 	values 14 r "$entry" audit r "$work/above"
 	cp "$work/old" "$o/out"
-	keeps "$o" values 14 r "$entry" release r "$work/nothing" 0 "$o/out"
-	keeps "$o" values 14 r "$entry" release r "$work/nothing" 1 "$o/out"
-	keeps "$o" values 14 r "$entry" release r "$work/empty" keep "$o/out"
-	keeps "$o" values 1 "$work/above" 'the file has more than 16777216 bytes' release "$work/above" "$work/nothing" 0 "$o/none"
-	keeps "$o" values 1 "$work/empty" 'the file has 0 bytes' release "$work/empty" "$work/sheet" keep "$o/none"
+	keeps "$o" values 14 r "$entry" release "$all" --owner=1 r "$work/nothing" 0 "$o/out"
+	keeps "$o" values 14 r "$entry" release "$all" --owner=1 r "$work/nothing" 1 "$o/out"
+	keeps "$o" values 14 r "$entry" release "$all" --owner=1 r "$work/empty" keep "$o/out"
+	keeps "$o" values 1 "$work/above" 'the file has more than 16777216 bytes' release "$all" --owner=1 "$work/above" "$work/nothing" 0 "$o/none"
+	keeps "$o" values 1 "$work/empty" 'the file has 0 bytes' release "$all" --owner=1 "$work/empty" "$work/sheet" keep "$o/none"
 	values 1 "$work/empty" 'the file has 0 bytes' audit "$work/empty" s
 	values 1 "$work/above" 'the file has more than 16777216 bytes' audit "$work/above" "$work/above"
 }
@@ -205,7 +205,7 @@ try_own_in_calls() {
 # ---- a sheet's, 15 to 17 ----
 
 # refuses_sheet N FILE TEXT: as values, of `release`, nothing written
-refuses_sheet() { keeps "$o" values "$1" "$2" "$3" release v "$2" keep "$o/out"; }
+refuses_sheet() { keeps "$o" values "$1" "$2" "$3" release "$all" --owner=1 v "$2" keep "$o/out"; }
 
 # odd_entry LENGTH M INDEX OFFSET END LENGTH BODY RUNNING: 15 of the file b, which names the first entry that does not follow
 odd_entry() {
@@ -216,7 +216,7 @@ odd_entry() {
 try_sheets() {
 	cp "$work/sheet" good
 	head -c 25 good >b
-	keeps "$o" refuses 15 b "$rule_sheet: the file has 25 bytes, m 1, the last body ends at 26" release v b keep "$o/out"
+	keeps "$o" refuses 15 b "$rule_sheet: the file has 25 bytes, m 1, the last body ends at 26" release "$all" --owner=1 v b keep "$o/out"
 	refuses_sheet 15 "$work/empty" 'the file has 0 bytes'
 	head -c 15 good >b
 	refuses_sheet 15 b 'the file has 15 bytes'
@@ -238,7 +238,7 @@ try_identities() {
 	same_image="v is 54524541542D3031 \"TREAT-01\" $numbers"
 	poked good b 11 '\002'
 	keeps "$o" refuses 16 b "$rule_identity: the sheet is for 54524541542D3031 \"TREAT-01\" revision 0x02020304 extended 0x0000 \
-version 2.2.3.4, $same_image" release v b keep "$o/out"
+version 2.2.3.4, $same_image" release "$all" --owner=1 v b keep "$o/out"
 	poked good b 7 '\000'
 	refuses_sheet 16 b "the sheet is for 54524541542D3000 $numbers, $same_image"
 }
@@ -247,7 +247,7 @@ version 2.2.3.4, $same_image" release v b keep "$o/out"
 try_fields() {
 	rule='a setting must have a byte or more, at offsets 32 to z-1 of the region'
 	poked good b 16 '\037'
-	keeps "$o" refuses 17 b "$rule: entry 0 (counted from 0) has offset 31 length 2, the region's size z is 400" release v b keep "$o/none"
+	keeps "$o" refuses 17 b "$rule: entry 0 (counted from 0) has offset 31 length 2, the region's size z is 400" release "$all" --owner=1 v b keep "$o/none"
 	printf 'TREAT-01\004\003\002\001\003\000\000\000' >b
 	printf '\050\000\000\000\002\000\050\000\217\001\000\000\002\000\052\000\000\002\000\000\001\000\054\000abcde' >>b
 	refuses_sheet 17 b "entry 1 (counted from 0) has offset 399 length 2, the region's size z is 400"
@@ -264,10 +264,10 @@ try_fields() {
 try_new_bases() {
 	cp "$work/old" "$o/out"
 	for base in 0x00100800 0xFFFFF000 0x100000000 0x100100000 0xFFFFFFFFFFFFFFFF; do
-		keeps "$o" refuses 18 v "the new base $rule_base: $base for 8192 bytes" release v "$work/nothing" "$base" "$o/out"
+		keeps "$o" refuses 18 v "the new base $rule_base: $base for 8192 bytes" release "$all" --owner=1 v "$work/nothing" "$base" "$o/out"
 	done
-	keeps "$o" refuses 18 v "the new base $rule_base: 0xFFFFFFFFFFFFFFFF for 8192 bytes" release v "$work/nothing" 18446744073709551615 "$o/out"
-	keeps "$o" refuses 18 v "the new base $rule_base: 0x00000001 for 8192 bytes" release v "$work/nothing" 1 "$o/none"
+	keeps "$o" refuses 18 v "the new base $rule_base: 0xFFFFFFFFFFFFFFFF for 8192 bytes" release "$all" --owner=1 v "$work/nothing" 18446744073709551615 "$o/out"
+	keeps "$o" refuses 18 v "the new base $rule_base: 0x00000001 for 8192 bytes" release "$all" --owner=1 v "$work/nothing" 1 "$o/none"
 	poked s b 128 '\001'
 	refuses 18 b "the shipped file's base $rule_base: 0x00100001 for 8192 bytes" audit v b
 	poked s b 128 '\000\360\377\377'
@@ -278,17 +278,17 @@ try_new_bases() {
 try_release_order() {
 	cp "$work/old" "$o/out"
 	head -c 25 good >b
-	keeps "$o" values 14 r "$entry" release r b 1 "$o/out"
-	keeps "$o" values 15 b 'the file has 25 bytes, m 1, the last body ends at 26' release v b 1 "$o/out"
+	keeps "$o" values 14 r "$entry" release "$all" --owner=1 r b 1 "$o/out"
+	keeps "$o" values 15 b 'the file has 25 bytes, m 1, the last body ends at 26' release "$all" --owner=1 v b 1 "$o/out"
 	poked good b 0 X 16 '\037'
 	keeps "$o" values 16 b "the sheet is for 58524541542D3031 \"XREAT-01\" revision 0x01020304 extended 0x0000 version 1.2.3.4, $same_image" \
-		release v b 1 "$o/out"
+		release "$all" --owner=1 v b 1 "$o/out"
 	poked good b 16 '\037'
-	keeps "$o" values 17 b "entry 0 (counted from 0) has offset 31 length 2, the region's size z is 400" release v b 1 "$o/out"
-	keeps "$o" refuses 18 v "the new base $rule_base: 0x00000001 for 8192 bytes" release v good 1 "$o/out"
+	keeps "$o" values 17 b "entry 0 (counted from 0) has offset 31 length 2, the region's size z is 400" release "$all" --owner=1 v b 1 "$o/out"
+	keeps "$o" refuses 18 v "the new base $rule_base: 0x00000001 for 8192 bytes" release "$all" --owner=1 v good 1 "$o/out"
 	poked "$work/nothing" b 7 '\002'
 	keeps "$o" values 16 b "the sheet is for 54524541542D3002 revision 0x01020304 extended 0x0000 version 1.2.3.4, $same_image" \
-		release v b 0x00100000 "$o/out"
+		release "$all" --owner=1 v b 0x00100000 "$o/out"
 }
 
 try_pairs() {
@@ -319,7 +319,7 @@ try_huge() {
 	values 1 "$work/huge" "$long" read "$work/huge"
 	values 1 "$work/huge" "$long" audit "$work/huge" s
 	values 19 "$work/huge" "$long, v has 8192" audit v "$work/huge"
-	keeps "$o" values 1 "$work/huge" "$long" release "$work/huge" "$work/nothing" 0 "$o/out"
+	keeps "$o" values 1 "$work/huge" "$long" release "$all" --owner=1 "$work/huge" "$work/nothing" 0 "$o/out"
 	refuses_sheet 15 "$work/huge" "$long, m 0, the last body ends at 16"
 	rm "$work/huge"
 }

@@ -76,11 +76,11 @@ try_reserved_calls() {
 	values 22 b "$entry" read --words b
 	values 22 b "$entry" setting b 40 2
 	values 22 b "$entry" setting b 0 0
-	keeps "$o" values 22 b "$entry" release b "$work/nothing" 0 "$o/out"
-	keeps "$o" values 22 b "$entry" release b "$work/nothing" 1 "$o/none"
-	keeps "$i" values 22 b "$entry" release b "$work/nothing" 0x00100000 b
-	keeps "$o" values 22 b "$entry" release b good keep "$o/out"
-	keeps "$o" values 22 b "$entry" release b "$work/empty" keep "$o/out"
+	keeps "$o" values 22 b "$entry" release "$all" --owner=1 b "$work/nothing" 0 "$o/out"
+	keeps "$o" values 22 b "$entry" release "$all" --owner=1 b "$work/nothing" 1 "$o/none"
+	keeps "$i" values 22 b "$entry" release "$all" --owner=1 b "$work/nothing" 0x00100000 b
+	keeps "$o" values 22 b "$entry" release "$all" --owner=1 b good keep "$o/out"
+	keeps "$o" values 22 b "$entry" release "$all" --owner=1 b "$work/empty" keep "$o/out"
 	keeps "$o" values 22 b "$entry" sheet empty b "$o/out"
 	keeps "$o" values 22 b "$entry" sheet make b "$work/old" "$o/out"
 	values 22 b "$entry" sheet show good b

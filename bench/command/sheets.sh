@@ -59,7 +59,7 @@ try_shown_sheet() {
 		'# entries 4, of which 3 would change the image'
 	works 0 sheet show "$o/sheet"
 	prints "$treat" 'revision 0x01020304' 'extended 0x0000 # version 1.2.3.4' '32 AA' '39 FF' '40 0100' '399 B7' '# entries 4'
-	works 0 release "$work/unset" "$o/sheet" keep "$o/set"
+	works 0 release "$all" --owner=1 "$work/unset" "$o/sheet" keep "$o/set"
 	works 0 audit --bytes "$work/unset" "$o/set"
 	prints 'base 0xFFF80000' 'settings 4' 'strays 0' "$(sed -n 4p "$work/out")" "S 4128 $(byte_at "$work/unset" 4128) AA" 'S 4136 FF 01' \
 		'S 4137 FF 00' 'S 4495 B6 B7' 'verdict explained'
@@ -111,7 +111,7 @@ the region's size z is 400" sheet show b v
 	prints "$treat" 'revision 0x01020304' 'extended 0x0000 # version 1.2.3.4' '31 0100' '# entries 1'
 	{ cat good && printf X; } >b
 	values 15 b 'the file has 27 bytes, m 1, the last body ends at 26' sheet show b
-	keeps "$o" values 15 b 'the file has 27 bytes, m 1, the last body ends at 26' release v b keep "$o/out"
+	keeps "$o" values 15 b 'the file has 27 bytes, m 1, the last body ends at 26' release "$all" --owner=1 v b keep "$o/out"
 	head -c 25 good >b
 	values 15 b 'the file has 25 bytes, m 1, the last body ends at 26' sheet show b
 	values 15 b 'the file has 25 bytes, m 1, the last body ends at 26' sheet show b v
@@ -120,7 +120,7 @@ the region's size z is 400" sheet show b v
 	values 15 b 'the file has 9 bytes, and it is text: sheet make makes a sheet of it' sheet show b
 	printf '# a text\n40 0100\n' >b
 	keeps "$o" values 15 b 'the file has 17 bytes, m 12592, entry 0 (counted from 0) is cut short, and it is text: sheet make makes a sheet of it' \
-		release v b keep "$o/out"
+		release "$all" --owner=1 v b keep "$o/out"
 	values 14 r "$entry_of_r" sheet show good r
 	values 14 r "$entry_of_r" sheet show b r
 	keeps "$o" values 14 r "$entry_of_r" sheet empty r "$o/out"
@@ -229,7 +229,7 @@ try_shown_path() {
 	# shellcheck disable=SC2016
 	sed -n 's/^`settings.txt` may be as short as `\([^`]*\)`.*/\1/p' "$root/README.md" >"$work/path/settings.txt"
 	sed -n 's/^    pajurenda //p' "$root/README.md" >"$work/path_lines"
-	[ "$(wc -l <"$work/path_lines")" -eq 5 ] || fail "not five lines in the README"
+	[ "$(wc -l <"$work/path_lines")" -eq 6 ] || fail "not six lines in the README"
 	cd "$work/path"
 	while read -r words; do
 		# shellcheck disable=SC2086

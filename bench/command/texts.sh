@@ -172,8 +172,8 @@ try_out_is_input() {
 	lost 'sheet make' IMAGE sheet make v t by_link
 	lost 'sheet make' TEXT sheet make v t t
 	lost 'sheet make' TEXT sheet make v t by_name
-	lost release SHEET release v s26 keep s26
-	lost release SHEET release v s26 0x00100000 "$i/s26"
+	lost release SHEET release "$all" --owner=1 v s26 keep s26
+	lost release SHEET release "$all" --owner=1 v s26 0x00100000 "$i/s26"
 	keeps "$i" errs 'is a sheet already' sheet make v s26 by_name
 	rm by_link by_name s26
 }

@@ -45,14 +45,14 @@ try_read_words() {
 
 # the shipped file of the sample is the vendor's image moved, with two bytes more changed
 try_move() {
-	works 0 release "$vendor" "$work/nothing" 0x00100000 "$o/moved"
+	works 0 release "$all" --owner=1 "$vendor" "$work/nothing" 0x00100000 "$o/moved"
 	prints 'base 0x00100000' 'move -4293394432' 'entries 0'
 	poked "$o/moved" "$work/expected" 4136 '\000' 5000 '\064'
 	same "$work/expected" "$shipped"
-	works 0 release "$o/moved" "$work/nothing" 0xFFF80000 "$o/back"
+	works 0 release "$all" --owner=1 "$o/moved" "$work/nothing" 0xFFF80000 "$o/back"
 	prints 'base 0xFFF80000' 'move 4293394432' 'entries 0'
 	same "$o/back" "$vendor"
-	works 0 release "$vendor" "$work/nothing" 4294443008 "$o/stayed"
+	works 0 release "$all" --owner=1 "$vendor" "$work/nothing" 4294443008 "$o/stayed"
 	prints 'base 0xFFF80000' 'move 0' 'entries 0'
 	same "$o/stayed" "$vendor"
 }
@@ -61,23 +61,23 @@ try_move() {
 try_in_place() {
 	cp "$vendor" "$o/place"
 	chmod 640 "$o/place"
-	works 0 release "$o/place" "$work/nothing" 1048576 "$o/place"
+	works 0 release "$all" --owner=1 "$o/place" "$work/nothing" 1048576 "$o/place"
 	same "$o/place" "$o/moved"
 	ln -s place "$o/link"
-	works 0 release "$o/link" "$work/nothing" 0xfff80000 "$o/link"
+	works 0 release "$all" --owner=1 "$o/link" "$work/nothing" 0xfff80000 "$o/link"
 	same "$o/place" "$vendor"
 	[ -L "$o/link" ] || fail "the link is gone"
 	[ "$(find "$o/place" -perm 640)" = "$o/place" ] || fail "the mode changed"
-	(umask 027 && works 0 release "$vendor" "$work/nothing" 0 "$o/new")
+	(umask 027 && works 0 release "$all" --owner=1 "$vendor" "$work/nothing" 0 "$o/new")
 	[ "$(find "$o/new" -perm 640)" = "$o/new" ] || fail "a new file's mode is not the usual one"
-	(cd "$o" && works 0 release "$vendor" "$work/nothing" 0 here)
+	(cd "$o" && works 0 release "$all" --owner=1 "$vendor" "$work/nothing" 0 here)
 	same "$o/here" "$o/new"
 }
 
 try_set() {
 	poked "$vendor" "$work/unset" 4135 '\377\377\377\377'
 	poked "$work/unset" "$work/expected" 4136 '\001\000'
-	works 0 release "$work/unset" "$work/sheet" keep "$o/set"
+	works 0 release "$all" --owner=1 "$work/unset" "$work/sheet" keep "$o/set"
 	prints 'base 0xFFF80000' 'move 0' 'entries 1'
 	same "$o/set" "$work/expected"
 	works 0 setting "$o/set" 40 2
@@ -86,22 +86,22 @@ try_set() {
 	prints 'place 4135' 'length 4' 'bytes FF FF FF FF'
 	works 0 setting "$vendor" 399 1
 	prints 'place 4495' 'length 1' 'bytes B6'
-	works 0 release "$o/set" "$work/sheet" keep "$o/set"
+	works 0 release "$all" --owner=1 "$o/set" "$work/sheet" keep "$o/set"
 	same "$o/set" "$work/expected"
 }
 
 # both in one step, whatever there is of each; in place too
 try_release() {
 	poked "$o/moved" "$work/expected" 4136 '\001\000'
-	works 0 release "$vendor" "$work/sheet" 0x00100000 "$o/released"
+	works 0 release "$all" --owner=1 "$vendor" "$work/sheet" 0x00100000 "$o/released"
 	prints 'base 0x00100000' 'move -4293394432' 'entries 1'
 	same "$o/released" "$work/expected"
 	works 0 audit --ranges "$vendor" "$o/released"
 	prints 'base 0x00100000' 'settings 1' 'strays 0' 'bits 2' 'S 4137..4137 length 1 region offset 41' 'verdict explained'
-	works 0 release "$o/released" "$work/sheet" keep "$o/released"
+	works 0 release "$all" --owner=1 "$o/released" "$work/sheet" keep "$o/released"
 	prints 'base 0x00100000' 'move 0' 'entries 1'
 	same "$o/released" "$work/expected"
-	works 0 release "$vendor" "$work/nothing" keep "$o/released"
+	works 0 release "$all" --owner=1 "$vendor" "$work/nothing" keep "$o/released"
 	prints 'base 0xFFF80000' 'move 0' 'entries 0'
 	same "$o/released" "$vendor"
 	rm "$o/released"
@@ -134,9 +134,9 @@ try_audit_bytes() {
 
 # the longest image, and a list of 65,536 differences
 try_large() {
-	works 0 release "$work/large" "$work/nothing" 0xff000000 "$o/large"
+	works 0 release "$all" --owner=1 "$work/large" "$work/nothing" 0xff000000 "$o/large"
 	prints 'base 0xFF000000' 'move 4278190080' 'entries 0'
-	works 0 release "$o/large" "$work/nothing" 0 "$o/large"
+	works 0 release "$all" --owner=1 "$o/large" "$work/nothing" 0 "$o/large"
 	same "$o/large" "$work/large"
 	head -c 65536 /dev/zero | tr '\000' '\001' | dd of="$o/large" bs=4096 seek=4000 conv=notrunc 2>/dev/null
 	works 1 audit --bytes "$work/large" "$o/large"
@@ -152,18 +152,18 @@ try_large() {
 # whatever base an output shows, a command that is given it takes it for the same
 try_base_again() {
 	for base in 0x00512000 0x00001000 0xFFFFE000 0x10000000 0x00000000; do
-		works 0 release "$vendor" "$work/nothing" "$base" "$o/again"
+		works 0 release "$all" --owner=1 "$vendor" "$work/nothing" "$base" "$o/again"
 		[ "$(sed -n 's/^base //p' "$work/out")" = "$base" ] || fail "release shows another base"
 		works 0 read "$o/again"
 		[ "$(sed -n 's/^base //p' "$work/out")" = "$base" ] || fail "read shows another base"
 		works 0 audit "$vendor" "$o/again"
 		shown=$(sed -n 's/^base //p' "$work/out")
 		[ "$shown" = "$base" ] || fail "audit shows another base"
-		works 0 release "$o/again" "$work/nothing" "$shown" "$o/same"
+		works 0 release "$all" --owner=1 "$o/again" "$work/nothing" "$shown" "$o/same"
 		prints "base $base" 'move 0' 'entries 0'
 		works 0 read --words "$o/again"
 		shown=$(sed -n 's/^base word at 128 is //p' "$work/out")
-		works 0 release "$o/again" "$work/nothing" "$shown" "$o/same"
+		works 0 release "$all" --owner=1 "$o/again" "$work/nothing" "$shown" "$o/same"
 		prints "base $base" 'move 0' 'entries 0'
 	done
 }

@@ -14,8 +14,9 @@ help_is() {
 try_help() {
 	works 0 --help
 	cp "$work/out" "$work/help.all"
-	for word in read release 'sheet empty' 'sheet make' 'sheet show' setting audit handoff help --words --bytes --ranges --json --version 'Exit status' \
-		' 20  ROOM' ' 22  RESERVED' '1 to 12, 22, 13, 14' ' 33  KIND'; do
+	for word in read release 'sheet empty' 'sheet make' 'sheet show' 'owners all' 'owners show' setting audit handoff help --words --bytes --ranges \
+		--json --owners --owner --version 'Exit status' ' 20  ROOM' ' 22  RESERVED' ' 23  OWNERS' ' 24  OWNER' '1 to 12, 22, 13, 14' \
+		'15, 23, 16, 17, 24' ' 33  KIND'; do
 		grep -qF -e "$word" "$work/out" || fail "the help does not speak of $word"
 		passed
 	done
@@ -23,7 +24,7 @@ try_help() {
 		# shellcheck disable=SC2086
 		help_is all $words
 	done
-	for name in read release sheet setting audit handoff; do
+	for name in read release sheet owners setting audit handoff; do
 		works 0 help "$name"
 		cp "$work/out" "$work/help.$name"
 		[ "$(head -n 1 "$work/out" | cut -d ' ' -f 1-3)" = "usage: pajurenda $name" ] || fail "no usage first"
@@ -39,6 +40,7 @@ try_help() {
 	done
 	grep -qF -e --ranges "$work/help.audit" || fail "audit's help has no --ranges"
 	grep -qF -e --json "$work/help.handoff" || fail "handoff's help has no --json"
+	for word in --owners --owner 'owners all'; do grep -qF -e "$word" "$work/help.release" || fail "release's help has no $word"; done
 }
 
 # the version of the header, and what the build said of the kit
@@ -67,9 +69,9 @@ try_wrong_words() {
 	fails_with 'pajurenda: read: one word too many: "b" (see pajurenda read --help)' read a b
 	fails_with 'pajurenda: release: IMAGE and SHEET and BASE and OUT are missing (see pajurenda release --help)' release
 	fails_with 'pajurenda: release: SHEET and BASE and OUT are missing (see pajurenda release --help)' release a
-	fails_with 'pajurenda: release: BASE and OUT are missing (see pajurenda release --help)' release a b
-	fails_with 'pajurenda: release: OUT is missing (see pajurenda release --help)' release a b 0
-	fails_with 'pajurenda: release: one word too many: "d" (see pajurenda release --help)' release a b 0 c d e
+	fails_with 'pajurenda: release: BASE and OUT are missing (see pajurenda release --help)' release "$all" --owner=1 a b
+	fails_with 'pajurenda: release: OUT is missing (see pajurenda release --help)' release "$all" --owner=1 a b 0
+	fails_with 'pajurenda: release: one word too many: "d" (see pajurenda release --help)' release "$all" --owner=1 a b 0 c d e
 	fails_with 'pajurenda: setting: LENGTH is missing (see pajurenda setting --help)' setting a 40
 	fails_with 'pajurenda: audit: SHIPPED is missing (see pajurenda audit --help)' audit a
 	fails_with 'pajurenda: audit: SHIPPED is missing (see pajurenda audit --help)' audit --bytes a
@@ -91,8 +93,8 @@ try_wrong_options() {
 	fails_with 'pajurenda: read: takes no option --ranges (see pajurenda read --help)' read "$vendor" --ranges
 	fails_with 'pajurenda: audit: --bytes and --ranges exclude each other (see pajurenda audit --help)' \
 		audit --bytes "$vendor" "$shipped" --ranges
-	keeps "$o" fails_with 'pajurenda: release: unknown option -1 (see pajurenda release --help)' release "$vendor" "$work/nothing" -1 "$o/none"
-	keeps "$o" fails_with 'pajurenda: release: takes no option --words (see pajurenda release --help)' release --words "$vendor" "$work/nothing" 0 "$o/none"
+	keeps "$o" fails_with 'pajurenda: release: unknown option -1 (see pajurenda release --help)' release "$all" --owner=1 "$vendor" "$work/nothing" -1 "$o/none"
+	keeps "$o" fails_with 'pajurenda: release: takes no option --words (see pajurenda release --help)' release "$all" --owner=1 --words "$vendor" "$work/nothing" 0 "$o/none"
 }
 
 # an option anywhere, and files that are named like one
@@ -121,8 +123,8 @@ try_options_anywhere() {
 		works 0 audit -- --bytes help
 		works 0 audit help -
 		fails_with 'pajurenda: --: No such file or directory' read -- --
-		keeps "$i" fails_with 'pajurenda: release: unknown option --out (see pajurenda release --help)' release v "$work/nothing" 0 --out
-		works 0 release v "$work/nothing" 0 -- --out
+		keeps "$i" fails_with 'pajurenda: release: unknown option --out (see pajurenda release --help)' release "$all" --owner=1 v "$work/nothing" 0 --out
+		works 0 release "$all" --owner=1 v "$work/nothing" 0 -- --out
 		same ./--out "$o/new"
 		rm -- --out
 	)
@@ -132,7 +134,7 @@ or_keep=", or keep for the image's own base"
 
 # misread NUMBER SENTENCE [MORE]: the number is refused as each of the words that are numbers, and nothing is written
 misread() {
-	keeps "$o" fails_with "pajurenda: release: BASE \"$1\" $2${3-}" release "$vendor" "$work/nothing" "$1" "$o/none"
+	keeps "$o" fails_with "pajurenda: release: BASE \"$1\" $2${3-}" release "$all" --owner=1 "$vendor" "$work/nothing" "$1" "$o/none"
 	fails_with "pajurenda: setting: OFFSET \"$1\" $2" setting "$vendor" "$1" 1
 	fails_with "pajurenda: setting: LENGTH \"$1\" $2" setting "$vendor" 40 "$1"
 }
@@ -153,24 +155,24 @@ try_misread() {
 	for number in 18446744073709551616 0x10000000000000000 99999999999999999999999 0x8000000000000000000; do
 		misread "$number" 'does not fit 64 bits'
 	done
-	fails_with "pajurenda: release: BASE \"1?2\" is not a number: write hex as 0x00512000, decimal without a leading 0$or_keep" release "$vendor" "$work/nothing" '1
+	fails_with "pajurenda: release: BASE \"1?2\" is not a number: write hex as 0x00512000, decimal without a leading 0$or_keep" release "$all" --owner=1 "$vendor" "$work/nothing" '1
 2' "$o/none"
 }
 
 # the image's own base is `keep` in this form alone
 try_keep() {
-	works 0 release "$o/moved" "$work/nothing" keep "$o/taken"
+	works 0 release "$all" --owner=1 "$o/moved" "$work/nothing" keep "$o/taken"
 	prints 'base 0x00100000' 'move 0' 'entries 0'
 	same "$o/taken" "$o/moved"
 	for word in Keep KEEP 'keep ' keep. same; do
 		keeps "$o" fails_with "pajurenda: release: BASE \"$word\" is not a number: write hex as 0x00512000, decimal without a leading 0$or_keep" \
-			release "$vendor" "$work/nothing" "$word" "$o/none"
+			release "$all" --owner=1 "$vendor" "$work/nothing" "$word" "$o/none"
 	done
 }
 
 # what was two commands once is told to who types them, whatever follows
 try_gone() {
-	line='is gone: type release IMAGE SHEET BASE OUT; to'
+	line='is gone: type release --owners LIST --owner N IMAGE SHEET BASE OUT; to'
 	move="pajurenda: move $line set nothing, with the SHEET that sheet empty IMAGE SHEET writes (see pajurenda release --help)"
 	apply="pajurenda: apply $line move nothing, with keep for BASE (see pajurenda release --help)"
 	keeps "$o" fails_with "$move" move "$vendor" 0x00100000 "$o/none"
@@ -217,14 +219,14 @@ try_two_words() {
 # digits of either case and any count of zeros after 0x; decimal as it is
 try_taken() {
 	for base in 0x512000 0x0512000 0x00512000 0x000000000000000000512000 5316608; do
-		works 0 release "$vendor" "$work/nothing" "$base" "$o/taken"
+		works 0 release "$all" --owner=1 "$vendor" "$work/nothing" "$base" "$o/taken"
 		prints 'base 0x00512000' 'move -4289126400' 'entries 0'
 	done
 	for base in 0xfff80000 0xFfF80000 4294443008; do
-		works 0 release "$vendor" "$work/nothing" "$base" "$o/taken"
+		works 0 release "$all" --owner=1 "$vendor" "$work/nothing" "$base" "$o/taken"
 		prints 'base 0xFFF80000' 'move 0' 'entries 0'
 	done
-	works 0 release "$vendor" "$work/nothing" 512000 "$o/taken"
+	works 0 release "$all" --owner=1 "$vendor" "$work/nothing" 512000 "$o/taken"
 	prints 'base 0x0007D000' 'move -4293931008' 'entries 0'
 	works 0 setting "$vendor" 0x28 0x2
 	prints 'place 4136' 'length 2' 'bytes 01 05'

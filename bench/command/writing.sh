@@ -3,9 +3,9 @@
 
 # a limit to the size of files, as a full disk has it: some bytes go, then no more
 try_limit() {
-	keeps "$o" limited 'File too large' release "$vendor" "$work/nothing" 0 "$o/out"
-	keeps "$o" limited 'File too large' release "$vendor" "$work/nothing" 0 "$o/none"
-	keeps "$o" limited 'File too large' release "$vendor" "$work/sheet" keep "$o/out"
+	keeps "$o" limited 'File too large' release "$all" --owner=1 "$vendor" "$work/nothing" 0 "$o/out"
+	keeps "$o" limited 'File too large' release "$all" --owner=1 "$vendor" "$work/nothing" 0 "$o/none"
+	keeps "$o" limited 'File too large' release "$all" --owner=1 "$vendor" "$work/sheet" keep "$o/out"
 	ways="$ways, a limit to file sizes"
 }
 
@@ -24,12 +24,12 @@ try_disk() {
 	fi
 	mounted=disk
 	cp "$work/old" "$work/disk/out"
-	keeps "$work/disk" errs 'No space left' release "$work/large" "$work/nothing" 0xff000000 "$work/disk/out"
-	keeps "$work/disk" errs 'No space left' release "$work/large" "$work/nothing" 0xff000000 "$work/disk/none"
-	try 0 release "$vendor" "$work/nothing" 0 "$work/disk/small"
+	keeps "$work/disk" errs 'No space left' release "$all" --owner=1 "$work/large" "$work/nothing" 0xff000000 "$work/disk/out"
+	keeps "$work/disk" errs 'No space left' release "$all" --owner=1 "$work/large" "$work/nothing" 0xff000000 "$work/disk/none"
+	try 0 release "$all" --owner=1 "$vendor" "$work/nothing" 0 "$work/disk/small"
 	mount -o remount,ro "$work/disk"
-	keeps "$work/disk" errs 'Read-only file system' release "$vendor" "$work/nothing" 0 "$work/disk/out"
-	keeps "$work/disk" errs 'Read-only file system' release "$vendor" "$work/sheet" keep "$work/disk/none"
+	keeps "$work/disk" errs 'Read-only file system' release "$all" --owner=1 "$vendor" "$work/nothing" 0 "$work/disk/out"
+	keeps "$work/disk" errs 'Read-only file system' release "$all" --owner=1 "$vendor" "$work/sheet" keep "$work/disk/none"
 	umount "$work/disk"
 	mounted=
 	ways="$ways, a full disk, a read-only disk"
@@ -50,7 +50,7 @@ whole() {
 kill_at_random() {
 	delays=$(awk -v seed="$seed" 'BEGIN { srand(seed); for (n = 0; n < 6; n++) printf "%.4f ", rand() * 0.06 }')
 	for delay in $delays; do
-		timeout --foreground -s "$1" "$delay" ${emulator:+"$emulator"} "$command" release "$work/large" "$work/sheet" 0xff000000 "$k/out" \
+		timeout --foreground -s "$1" "$delay" ${emulator:+"$emulator"} "$command" release "$all" --owner=1 "$work/large" "$work/sheet" 0xff000000 "$k/out" \
 			>/dev/null 2>&1 || :
 		whole "$1"
 		passed
@@ -77,7 +77,7 @@ kill_while_writing() {
 		[ "$turns" -lt 40 ] || fail "no $1 of 40 came while it was writing"
 		turns=$((turns + 1))
 		# shellcheck disable=SC2086
-		$under ${emulator:+"$emulator"} "$command" release "$work/large" "$work/sheet" 0xff000000 "$k/out" >/dev/null 2>&1 &
+		$under ${emulator:+"$emulator"} "$command" release "$all" --owner=1 "$work/large" "$work/sheet" 0xff000000 "$k/out" >/dev/null 2>&1 &
 		process=$!
 		await_writing "$process"
 		kill -s "$1" "$process" 2>/dev/null || :
@@ -97,7 +97,7 @@ try_killed() {
 	fi
 	k=$work/k
 	mkdir "$k"
-	works 0 release "$work/large" "$work/sheet" 0xff000000 "$work/released_large"
+	works 0 release "$all" --owner=1 "$work/large" "$work/sheet" 0xff000000 "$work/released_large"
 	cp "$work/large" "$k/out"
 	for signal in INT TERM HUP KILL; do
 		kill_at_random "$signal"

@@ -1,5 +1,5 @@
 /* The linked library against the second reader, on drawn and damaged inputs. */
-#include "pajurenda.h"
+#include "fields.h"
 
 #include <inttypes.h>
 #include <stdbool.h>
@@ -9,7 +9,6 @@
 
 #include "counts.h"
 #include "drawing.h"
-#include "fields.h"
 #include "lent.h"
 #include "../second/second.h"
 
@@ -22,8 +21,8 @@
 static const size_t answer_bytes[CALLS] = { PAJURENDA_READ_BYTES, PAJURENDA_RELEASE_BYTES, PAJURENDA_SHEET_BYTES,
 					    PAJURENDA_SETTING_BYTES, PAJURENDA_AUDIT_BYTES };
 
-static const char *const part_name[PARTS] = { "image", "other", "places", "answer" };
-static const size_t part_room[PARTS] = { IMAGE_ROOM, IMAGE_ROOM, PLACES_ROOM, ANSWER_ROOM };
+static const char *const part_name[PARTS] = { "image", "other", "owners", "places", "answer" };
+static const size_t part_room[PARTS] = { IMAGE_ROOM, IMAGE_ROOM, OWNERS_ROOM, PLACES_ROOM, ANSWER_ROOM };
 
 static struct lent lent[PARTS];
 uint8_t *model[PARTS];
@@ -100,7 +99,7 @@ static void draw_answer(enum call call)
 static void draw(enum call call, uint64_t turn)
 {
 	const bool edge = turn < (call == SHEET ? SHEET_LENGTHS : EDGES);
-	length[IMAGE] = length[OTHER] = length[PLACES] = 0;
+	length[IMAGE] = length[OTHER] = length[OWNERS] = length[PLACES] = 0;
 	if (call == SHEET)
 		draw_lone_sheet(turn);
 	else if (edge)
@@ -108,7 +107,7 @@ static void draw(enum call call, uint64_t turn)
 	else
 		draw_image();
 	if (call == RELEASE)
-		draw_base(), draw_sheet();
+		draw_base(), draw_sheet(), second_number = draw_owners();
 	else if (call == SETTING)
 		draw_setting();
 	else if (call == AUDIT)
@@ -128,7 +127,8 @@ static uint32_t call_library(enum call call)
 	switch (call) {
 	case READ: return pajurenda_read(image, size, answer, room);
 	case RELEASE:
-		return pajurenda_release(image, size, other, length[OTHER], first_number, answer, room);
+		return pajurenda_release(image, size, other, length[OTHER], first_number,
+					 lent[OWNERS].at, length[OWNERS], second_number, answer, room);
 	case SHEET: return pajurenda_sheet(other, length[OTHER], answer, room);
 	case SETTING:
 		return pajurenda_setting(image, size, first_number, second_number, answer, room);
@@ -174,11 +174,12 @@ static uint32_t model_sheet(void)
 /* The second reader's release. */
 static uint32_t model_release(void)
 {
-	const struct second_released r = second_release(model[IMAGE], length[IMAGE], model[OTHER],
-							length[OTHER], first_number);
+	const struct second_released r =
+		second_release(model[IMAGE], length[IMAGE], model[OTHER], length[OTHER], first_number,
+			       model[OWNERS], length[OWNERS], second_number);
 	const uint64_t fields[] = { r.number, r.index, (uint64_t)r.move };
 	put_fields(model[ANSWER], fields, 3);
-	count_release(&r);
+	count_release(&r, second_number);
 	return (uint32_t)r.number;
 }
 

@@ -1,5 +1,5 @@
 /* The linked library's two calls on hand-off blocks against the second reader: the cases, every step through drawn lists, any cursor. */
-#include "pajurenda.h"
+#include "fields.h"
 
 #include <inttypes.h>
 #include <stdbool.h>
@@ -7,7 +7,6 @@
 #include <stdlib.h>
 #include <string.h>
 
-#include "fields.h"
 #include "handoff_images.h"
 #include "images.h"
 #include "lent.h"

@@ -1,13 +1,12 @@
 /* The sum of the volume's header, by the linked library and by the second reader: every rest of a turn, the shortest and the longest header, right
    and off by one in the low or the high byte of a word. */
-#include "pajurenda.h"
+#include "fields.h"
 
 #include <inttypes.h>
 #include <stdbool.h>
 #include <stdio.h>
 #include <stdlib.h>
 
-#include "fields.h"
 #include "images.h"
 #include "../second/second.h"
 

@@ -1,5 +1,5 @@
 /* The counts of compare.c and its conclusion. */
-#include "pajurenda.h"
+#include "fields.h"
 
 #include <inttypes.h>
 #include <stdbool.h>
@@ -7,7 +7,6 @@
 
 #include "counts.h"
 #include "drawing.h"
-#include "fields.h"
 
 /* A run of so many calls must have every number. */
 #define LONG 10000
@@ -25,6 +24,12 @@ static uint64_t right_sheets[3];
 
 /* Accepted releases, by whether the sheet has entries and whether the base is another. */
 static uint64_t released[2][2];
+
+/* Accepted releases that set, by who asks; of these the ones beside ranges of the other's, over a range's end, with 64 ranges. */
+static uint64_t set_by[3], beside, over, full;
+
+/* Refusal 23, by whether one who is an owner asked: then it is the list's. */
+static uint64_t refused_owners[2];
 
 /* ---- one call ---- */
 
@@ -52,11 +57,50 @@ void count_call(enum call call, uint32_t number)
 	count_edge(call, number);
 }
 
-/* An accepted release by what it did: the sheet is in its buffer still. */
-void count_release(const struct second_released *r)
+/* A range of the list is the other owner's. */
+static bool has_other(uint64_t caller)
 {
-	if (r->number == 0)
-		released[get_number(model[OTHER], 12, 2) != 0][r->move != 0]++;
+	for (size_t at = 0; at < length[OWNERS]; at += 8)
+		if (get_number(model[OWNERS], at + 6, 2) != caller)
+			return true;
+	return false;
+}
+
+/* The end of some range of the list lies inside an entry. */
+static bool goes_over(size_t entry)
+{
+	const uint64_t offset = get_number(model[OTHER], entry, 4), size = get_number(model[OTHER], entry + 4, 2);
+	for (size_t at = 0; at < length[OWNERS]; at += 8) {
+		const uint64_t end = get_number(model[OWNERS], at, 4) + get_number(model[OWNERS], at + 4, 2);
+		if (end > offset && end < offset + size)
+			return true;
+	}
+	return false;
+}
+
+/* An accepted release that sets, by its list. */
+static void count_owners(uint64_t caller, uint64_t m)
+{
+	bool some = false;
+	for (uint64_t i = 0; i < m; i++)
+		some = some || goes_over((size_t)(16 + 8 * i));
+	set_by[caller]++;
+	beside += has_other(caller) ? 1 : 0;
+	over += some ? 1 : 0;
+	full += length[OWNERS] == 512 ? 1 : 0;
+}
+
+/* An accepted release by what it did, the sheet and the list being in their buffers still; and refusal 23. */
+void count_release(const struct second_released *r, uint64_t caller)
+{
+	if (r->number == PAJURENDA_OWNERS)
+		refused_owners[caller == 1 || caller == 2]++;
+	if (r->number != 0)
+		return;
+	const uint64_t m = get_number(model[OTHER], 12, 2);
+	released[m != 0][r->move != 0]++;
+	if (m != 0)
+		count_owners(caller, m);
 }
 
 /* Which of refusal 15's lengths the sheet has; SHEET_LENGTHS where none. */
@@ -90,7 +134,9 @@ static bool can_be(enum call call, int number)
 	if (of_reading(number) || number == PAJURENDA_SHORT)
 		return true;
 	switch (call) {
-	case RELEASE: return number >= PAJURENDA_SHEET && number <= PAJURENDA_NEWBASE;
+	case RELEASE:
+		return (number >= PAJURENDA_SHEET && number <= PAJURENDA_NEWBASE) ||
+		       number == PAJURENDA_OWNERS || number == PAJURENDA_OWNER;
 	case SETTING: return number == PAJURENDA_FIELD;
 	case AUDIT: return number >= PAJURENDA_NEWBASE && number <= PAJURENDA_ROOM;
 	default: return false;
@@ -115,7 +161,17 @@ static bool show_released(void)
 	return released[1][1] != 0 && released[1][0] != 0 && released[0][1] != 0 && released[0][0] != 0;
 }
 
-/* How often sheets by themselves were of each kind; false where a kind, one of the lengths, or an accepted one of 16 or 65535 bytes never came. */
+/* How often each kind of owner list came; false where one never did. */
+static bool show_owners(void)
+{
+	printf("releases that set, by owner 1: %" PRIu64 ", by owner 2: %" PRIu64 ", of these beside the other's ranges: %" PRIu64
+	       ", over a range's end: %" PRIu64 ", with 64 ranges: %" PRIu64 "\n", set_by[1], set_by[2], beside, over, full);
+	printf("refused with 23 by the list: %" PRIu64 ", by who asks: %" PRIu64 "\n", refused_owners[1], refused_owners[0]);
+	return set_by[1] != 0 && set_by[2] != 0 && beside != 0 && over != 0 && full != 0 &&
+	       refused_owners[0] != 0 && refused_owners[1] != 0;
+}
+
+/* How often sheets by themselves came; false where a kind, a length, or an accepted one of 16 or 65535 bytes never did. */
 static bool show_sheets(void)
 {
 	uint64_t all = 0;
@@ -171,10 +227,10 @@ int conclude(uint64_t first, uint64_t count)
 	for (int call = 0; call < CALLS; call++)
 		show_seen((enum call)call);
 	show_lengths();
-	const bool every_way = show_released(), every_sheet = show_sheets();
+	const bool every_way = show_released(), every_list = show_owners(), every_sheet = show_sheets();
 	for (int call = 0; first == 0 && count >= CALLS * EDGES && call < CALLS; call++)
 		all = had_all((enum call)call, count >= LONG) && all;
-	if (first == 0 && count >= LONG && !(every_way && every_sheet))
+	if (first == 0 && count >= LONG && !(every_way && every_list && every_sheet))
 		all = false;
 	printf("same: %" PRIu64 " calls%s\n", count, all ? "" : ", but not of every kind");
 	return all ? 0 : 1;

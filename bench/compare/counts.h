@@ -12,7 +12,7 @@ extern const char *const call_name[CALLS];
 
 /* One call on the model's buffers as drawing.h has them: its number, what a release did, how a sheet by itself is. */
 void count_call(enum call call, uint32_t number);
-void count_release(const struct second_released *r);
+void count_release(const struct second_released *r, uint64_t caller);
 void count_sheet(const struct second_judged *r);
 
 /* Says the counts; 1 where a run from its start on lacks something that one of its length must have. */

@@ -48,7 +48,7 @@ static void move_shipped(uint64_t base)
 	uint8_t empty[EMPTY_SHEET];
 	const struct second_reading r = second_read(model[OTHER], length[OTHER]);
 	empty_sheet(empty, r.image_identity, r.revision, r.extended);
-	(void)second_release(model[OTHER], length[OTHER], empty, EMPTY_SHEET, base);
+	(void)second_release(model[OTHER], length[OTHER], empty, EMPTY_SHEET, base, empty, 0, 1);
 }
 
 /* The shipped file: the image moved, changed, of another length or another base word. */

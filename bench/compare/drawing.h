@@ -8,9 +8,10 @@
 #include "images.h"
 
 #define IMAGE_ROOM ((size_t)TWO24 + 65536)
+#define OWNERS_ROOM ((size_t)131072)
 
-/* The buffers of a call: image or vendor, sheet or shipped, places, answer. */
-enum part { IMAGE, OTHER, PLACES, ANSWER, PARTS };
+/* The buffers of a call: image or vendor, sheet or shipped, owner list, places, answer. */
+enum part { IMAGE, OTHER, OWNERS, PLACES, ANSWER, PARTS };
 
 /* compare.c: the model's bytes, how many are lent, the plan of the image, and room for an audit's list. */
 extern uint8_t *model[PARTS];
@@ -36,6 +37,9 @@ uint64_t drawn_value(uint64_t old, unsigned width);
 uint64_t sheet_length(uint64_t turn);
 void draw_sheet(void);
 void draw_lone_sheet(uint64_t turn);
+
+/* draw_owners.c: the owner list for a drawn sheet; gives who asks. */
+uint64_t draw_owners(void);
 
 /* draw_audit.c: the shipped file, and the places. */
 void draw_shipped(void);

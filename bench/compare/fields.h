@@ -1,9 +1,11 @@
-/* Little-endian numbers in byte buffers, for the files of this folder. */
+/* The header, and little-endian numbers in byte buffers, for the files of this folder. */
 #ifndef PAJURENDA_FIELDS_H
 #define PAJURENDA_FIELDS_H
 
 #include <stddef.h>
 #include <stdint.h>
+
+#include "pajurenda.h"
 
 /* A number of some bytes at a position. */
 static inline uint64_t get_number(const uint8_t *bytes, size_t at, unsigned width)

@@ -1,9 +1,8 @@
 /* The calls over the second reader, for building and testing before the archive is there. */
-#include "pajurenda.h"
+#include "fields.h"
 
 #include <stdlib.h>
 
-#include "fields.h"
 #include "../second/handoff.h"
 #include "../second/second.h"
 
@@ -25,11 +24,13 @@ uint32_t pajurenda_read(const uint8_t *image, size_t length,
 /* The image set and moved in place. */
 uint32_t pajurenda_release(uint8_t *image, size_t image_length,
 			   const uint8_t *sheet, size_t sheet_length, uint64_t base,
+			   const uint8_t *owners, size_t owners_length, uint64_t owner,
 			   uint8_t *answer, size_t answer_length)
 {
 	if (answer_length < PAJURENDA_RELEASE_BYTES)
 		return PAJURENDA_SHORT;
-	const struct second_released r = second_release(image, image_length, sheet, sheet_length, base);
+	const struct second_released r = second_release(image, image_length, sheet, sheet_length, base,
+							owners, owners_length, owner);
 	const uint64_t fields[] = { r.number, r.index, (uint64_t)r.move };
 	put_fields(answer, fields, FIELDS(fields));
 	return (uint32_t)r.number;

@@ -1,30 +1,22 @@
 /* The library's speed as a ratio to the second reader's plain C, and for the audit to memcmp: each time the best of the row's runs. */
-#define _POSIX_C_SOURCE 200809L
-
-#include "pajurenda.h"
+#include "fields.h"
 
 #include <inttypes.h>
 #include <stdbool.h>
 #include <stdio.h>
 #include <stdlib.h>
 #include <string.h>
-#include <time.h>
 
-#include "fields.h"
 #include "handoff_images.h"
 #include "images.h"
+#include "timing.h"
 #include "../second/handoff.h"
 #include "../second/second.h"
 
-/* A run has so many seconds at least; a row has so many seconds and runs, and goes on while one of the last runs was better. */
-#define SHORTEST 0.002
-#define LEAST_SECONDS 1.5
-#define LEAST_RUNS 25u
-#define QUIET_RUNS 12u
-#define MOST_RUNS 2000u
-#define BETTER 0.995
 #define BLOCK ((size_t)64)
 #define FIELDS_SET 16
+#define FIELDS_MOST 256
+#define RANGES 64
 
 static struct plan plan;
 static uint8_t *image, *shipped, *places;
@@ -32,12 +24,11 @@ static uint32_t *list;
 static size_t size, places_count;
 static uint64_t entries;
 static uint8_t sheet[EMPTY_SHEET + 10 * FIELDS_SET], empty[EMPTY_SHEET];
+static uint8_t large[EMPTY_SHEET + 9 * FIELDS_MOST];
+static uint8_t whole[8], pieces[8 * RANGES];
 static uint8_t answer[PAJURENDA_READ_BYTES];
 static volatile uint64_t refused, different;
 static int (*const volatile whole_compare)(const void *, const void *, size_t) = memcmp;
-
-/* One call. */
-typedef void work(void);
 
 /* Two bases in turn, whoever moves, so that every move moves. */
 static uint64_t next_base(void)
@@ -64,22 +55,42 @@ static uint64_t present_base(void)
 
 static void library_move(void)
 {
-	refused += pajurenda_release(image, size, empty, sizeof empty, next_base(), answer, sizeof answer);
+	refused += pajurenda_release(image, size, empty, sizeof empty, next_base(), whole, sizeof whole, 1,
+				     answer, sizeof answer);
 }
 
 static void plain_move(void)
 {
-	refused += second_release(image, size, empty, sizeof empty, next_base()).number;
+	refused += second_release(image, size, empty, sizeof empty, next_base(), whole, sizeof whole, 1).number;
 }
 
 static void library_set(void)
 {
-	refused += pajurenda_release(image, size, sheet, sizeof sheet, present_base(), answer, sizeof answer);
+	refused += pajurenda_release(image, size, sheet, sizeof sheet, present_base(), whole, sizeof whole, 1,
+				     answer, sizeof answer);
 }
 
 static void plain_set(void)
 {
-	refused += second_release(image, size, sheet, sizeof sheet, present_base()).number;
+	refused += second_release(image, size, sheet, sizeof sheet, present_base(), whole, sizeof whole, 1).number;
+}
+
+static void library_owned(void)
+{
+	refused += pajurenda_release(image, size, large, sizeof large, present_base(), pieces, sizeof pieces, 2,
+				     answer, sizeof answer);
+}
+
+static void plain_owned(void)
+{
+	refused += second_release(image, size, large, sizeof large, present_base(), pieces, sizeof pieces, 2).number;
+}
+
+/* The same sheet by the owner of all settings: one range in the place of 64. */
+static void library_one_range(void)
+{
+	refused += pajurenda_release(image, size, large, sizeof large, present_base(), whole, sizeof whole, 1,
+				     answer, sizeof answer);
 }
 
 static void library_audit(void)
@@ -127,76 +138,9 @@ static void memcmp_blocks(void)
 	different += blocks;
 }
 
-/* ---- time ---- */
+/* ---- one row ---- */
 
-/* Seconds that the processor gave us: what a busy machine does meanwhile doesn't count. */
-static double now(void)
-{
-	struct timespec at;
-	clock_gettime(CLOCK_PROCESS_CPUTIME_ID, &at);
-	return (double)at.tv_sec + (double)at.tv_nsec / 1e9;
-}
-
-/* Seconds for a number of calls. */
-static double time_of(work *call, uint64_t count)
-{
-	const double from = now();
-	for (uint64_t i = 0; i < count; i++)
-		call();
-	return now() - from;
-}
-
-/* How many calls make one measurement long enough. */
-static uint64_t calls_for(work *call)
-{
-	uint64_t count = 1;
-	while (time_of(call, count) < SHORTEST)
-		count *= 2;
-	return count;
-}
-
-/* One run of each work in turn; true where one was better than its best so far. */
-static bool run_each(work *const *calls, const uint64_t *count, double *best, size_t works)
-{
-	bool better = false;
-	for (size_t k = 0; k < works; k++) {
-		const double one = time_of(calls[k], count[k]) / (double)count[k];
-		better = better || one < BETTER * best[k];
-		best[k] = one < best[k] ? one : best[k];
-	}
-	return better;
-}
-
-/* The best time of one call for each of up to three works; gives the number of runs. */
-static unsigned best_of(work *const *calls, double *best, size_t works)
-{
-	uint64_t count[3] = { 0 };
-	unsigned runs = 0, quiet = 0;
-	const double from = now();
-	for (size_t k = 0; k < works; k++) {
-		count[k] = calls_for(calls[k]);
-		best[k] = 1e9;
-	}
-	while (runs < LEAST_RUNS ||
-	       (runs < MOST_RUNS && (quiet < QUIET_RUNS || now() - from < LEAST_SECONDS))) {
-		quiet = run_each(calls, count, best, works) ? 0 : quiet + 1;
-		runs++;
-	}
-	return runs;
-}
-
-/* A time in a unit that can be read. */
-static void show_time(double seconds)
-{
-	if (seconds < 1e-6)
-		printf(" %.0f ns |", seconds * 1e9);
-	else if (seconds < 1e-3)
-		printf(" %.1f µs |", seconds * 1e6);
-	else
-		printf(" %.2f ms |", seconds * 1e3);
-}
-
-/* One row of the table; the third work, where there is one, is memcmp. */
+/* One row of the table; the third work, where there is one, is memcmp unless the name says another. */
 static void row(const char *name, work *library, work *plain, work *third)
 {
 	work *const calls[3] = { library, plain, third };
@@ -236,6 +180,35 @@ static void make_sheet(void)
 	}
 }
 
+/* A good sheet of as many settings as may be, of one byte each. */
+static void make_large(void)
+{
+	memcpy(large, empty, sizeof empty);
+	put_number(large, 12, 2, FIELDS_MOST);
+	for (uint64_t i = 0; i < FIELDS_MOST; i++) {
+		put_number(large, 16 + 8 * i, 4, 32 + 4 * i);
+		put_number(large, 20 + 8 * i, 2, 1);
+		put_number(large, 22 + 8 * i, 2, 16 + 8 * FIELDS_MOST + i);
+		put_number(large, 16 + 8 * FIELDS_MOST + i, 1, i);
+	}
+}
+
+/* One range of an owner list. */
+static void put_range(uint8_t *owners, uint64_t i, uint64_t offset, uint64_t length, uint64_t owner)
+{
+	put_number(owners, 8 * i, 4, offset);
+	put_number(owners, 8 * i + 4, 2, length);
+	put_number(owners, 8 * i + 6, 2, owner);
+}
+
+/* All settings are owner 1's; or 64 ranges of owner 2's, with four of the large sheet's settings in each. */
+static void make_owners(void)
+{
+	put_range(whole, 0, 32, plan.z - 32, 1);
+	for (uint64_t i = 0; i < RANGES; i++)
+		put_range(pieces, i, 32 + 16 * i, 16, 2);
+}
+
 /* An accepted image of a length with n entries. */
 static void make_image(size_t length, uint64_t n)
 {
@@ -250,6 +223,8 @@ static void make_image(size_t length, uint64_t n)
 	fill_bytes(image, plan.length);
 	build(&plan, image);
 	make_sheet();
+	make_large();
+	make_owners();
 	if (size != length || second_read(image, size).number != 0) {
 		fputs("speed: the image is not as planned\n", stderr);
 		exit(2);
@@ -292,7 +267,7 @@ static void make_shipped(bool many)
 {
 	memcpy(shipped, image, size);
 	if (many) {
-		refused += second_release(shipped, size, empty, sizeof empty, 0x00100000).number;
+		refused += second_release(shipped, size, empty, sizeof empty, 0x00100000, whole, sizeof whole, 1).number;
 		for (size_t at = (size_t)plan.E; at < size; at += 16)
 			shipped[at] ^= 0x11;
 	}
@@ -318,6 +293,7 @@ static void rows(size_t length, uint64_t n)
 	row("read", library_read, plain_read, NULL);
 	row("release, move", library_move, plain_move, NULL);
 	row("release, sheet", library_set, plain_set, NULL);
+	row("release, 256 by 64", library_owned, plain_owned, library_one_range);
 	make_shipped(false);
 	row("audit, none", library_audit, plain_audit, memcmp_whole);
 	make_shipped(true);
@@ -345,8 +321,9 @@ int main(void)
 	printf("\nProcessor time of our own, the best of as many runs as the row says (%u at least, in turn, until %u in a\n"
 	       "row were no better). Ratio: library's time / the other's. \"none\": no difference, memcmp over the\n"
 	       "whole; \"many\": moved, every 16th byte another, memcmp in blocks of %zu. \"release, move\": an empty sheet;\n"
-	       "\"release, sheet\": the present base. \"handoffs\": blocks of 8 to 56 bytes, n of them. \"header of 65,534\":\n"
-	       "beside it not memcmp but the header's sum alone, a word a turn.\n",
+	       "\"release, sheet\": the present base; \"256 by 64\": 256 settings in 64 ranges, beside it not memcmp but our own with one\n"
+	       "range. \"handoffs\": blocks\n"
+	       "of 8 to 56 bytes, n of them. \"header of 65,534\": beside it not memcmp but the header's sum alone, a word a turn.\n",
 	       LEAST_RUNS, QUIET_RUNS, BLOCK);
 	return 0;
 }

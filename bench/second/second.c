@@ -4,6 +4,7 @@
 #include <stddef.h>
 
 #include "numbers.h"
+#include "owners.h"
 #include "sheet.h"
 
 #define TWO32 UINT64_C(4294967296)
@@ -430,18 +431,22 @@ static bool refuse_field(const struct letters *w, const struct sheet *s)
 	return false;
 }
 
-/* #105: the image's refusals, then the sheet's 15, 16, 17, then 18. */
-static uint64_t judge_release(struct letters *w, struct sheet *s, uint64_t new_base)
+/* #105, #106: the image's refusals, then 15, 23 (which needs z), 16, 17, 24, 18. */
+static uint64_t judge_release(struct letters *w, struct sheet *s, const struct owners *o, uint64_t new_base)
 {
 	const uint64_t number = judge(w);
 	if (number != 0)
 		return number;
 	if (second_sheet_refused(s))
 		return 15;
+	if (second_owners_refused(o, w->z))
+		return 23;
 	if (refuse_identity(w, s))
 		return 16;
 	if (refuse_field(w, s))
 		return 17;
+	if (second_owners_outside(o, s))
+		return 24;
 	return legal(new_base, w->length) ? 0 : 18;
 }
 
@@ -455,11 +460,13 @@ static void set_field(const struct letters *w, uint8_t *image, const struct shee
 
 /* #105: the sheet's bytes are set, then the image is moved; refused, no byte changes. */
 struct second_released second_release(uint8_t *image, uint64_t length,
-				      const uint8_t *sheet, uint64_t sheet_length, uint64_t new_base)
+				      const uint8_t *sheet, uint64_t sheet_length, uint64_t new_base,
+				      const uint8_t *owners, uint64_t owners_length, uint64_t owner)
 {
 	struct letters w = { .image = image, .length = length };
 	struct sheet s = { .bytes = sheet, .length = sheet_length };
-	const uint64_t number = judge_release(&w, &s, new_base);
+	const struct owners o = { .bytes = owners, .length = owners_length, .caller = owner };
+	const uint64_t number = judge_release(&w, &s, &o, new_base);
 
 	if (number != 0)
 		return (struct second_released){ .number = number, .index = w.index };

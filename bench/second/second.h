@@ -56,9 +56,10 @@ struct second_audited {
 
 struct second_reading second_read(const uint8_t *image, uint64_t length);
 
-/* An empty sheet of the image's identity only moves, the present base only sets. */
+/* An empty sheet of the image's identity only moves, the present base only sets; the owner (1 or 2) sets in its own ranges. */
 struct second_released second_release(uint8_t *image, uint64_t length,
-				      const uint8_t *sheet, uint64_t sheet_length, uint64_t new_base);
+				      const uint8_t *sheet, uint64_t sheet_length, uint64_t new_base,
+				      const uint8_t *owners, uint64_t owners_length, uint64_t owner);
 
 /* A sheet judged by itself, as every release judges it: 0 or 15. */
 struct second_judged second_sheet(const uint8_t *sheet, uint64_t sheet_length);

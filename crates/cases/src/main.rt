@@ -1,6 +1,7 @@
 // Reads records from standard input, does what each asks, and prints the answer and every lent byte afterwards. A record is a head of 40
 // bytes, which, at, count, call, len, other (32 bits each), a and b (64 bits each), and count bytes, which go into buffer `which` at `at`.
-// The image is the first len bytes of buffer 0, the other input the first `other` bytes of buffer 1.
+// The image is the first len bytes of buffer 0, the other input the first `other` bytes of buffer 1; of a release buffer 2 has the owner
+// list, as long as the low half of b says, and the high half of b is the owner.
 use libc::STDIN_FILENO;
 use libc::STDOUT_FILENO;
 
@@ -65,8 +66,8 @@ fn show_bytes(bytes: &[u8]) {
     line();
 }
 
-fn call_release(image: &mut [u8], sheet: &[u8], base: u64) {
-    show_move(release::release(image, sheet, base));
+fn call_release(image: &mut [u8], sheet: &[u8], base: u64, owners: &[u8], owner: u64) {
+    show_move(release::release(image, sheet, base, owners, owner));
     show_bytes(image);
 }
 
@@ -138,8 +139,8 @@ fn call_audit(vendor: &[u8], shipped: &[u8], count: usize) {
     }
 }
 
-// What the record asks of an image and the other input.
-fn answer(image: &mut [u8], other: &[u8], k: Record) {
+// What the record asks of an image, the other input and an owner list.
+fn answer(image: &mut [u8], other: &[u8], owners: &[u8], k: Record) {
     let call = k.call;
     if call == 1 {
         show_reading(image::read(image));
@@ -147,8 +148,8 @@ fn answer(image: &mut [u8], other: &[u8], k: Record) {
         call_setting(image, k.a as u64, k.b as u64);
     } else if call == 5 {
         call_audit(image, other, k.a);
-    } else if call == 6 {
-        call_release(image, other, k.a as u64);
+    } else if call == 7 {
+        call_release(image, other, k.a as u64, owners, k.b as u64 / 4294967296);
     }
 }
 
@@ -185,9 +186,22 @@ fn share(k: Record, which: usize) -> usize {
     0
 }
 
-fn take(first: &mut [u8], second: &mut [u8], k: Record) {
+// How long the owner list is: a release has it in the low half of b.
+fn list_length(k: Record) -> usize {
+    if k.call == 7 {
+        return k.b % 4294967296;
+    }
+    0
+}
+
+fn take(first: &mut [u8], second: &mut [u8], third: &mut [u8], k: Record) {
     store(first, k.at, share(k, 0));
     store(second, k.at, share(k, 1));
+    store(third, k.at, share(k, 2));
+    let list = list_length(k);
+    if third.len() < list {
+        return;
+    }
     let len = k.len;
     let other = k.other;
     if first.len() < len {
@@ -196,23 +210,23 @@ fn take(first: &mut [u8], second: &mut [u8], k: Record) {
     if second.len() < other {
         return;
     }
-    answer(&mut first[0..len], &second[0..other], k);
+    answer(&mut first[0..len], &second[0..other], &third[0..list], k);
 }
 
 // One record, or false at the end of them.
-fn step(first: &mut [u8], second: &mut [u8]) -> bool {
+fn step(first: &mut [u8], second: &mut [u8], third: &mut [u8]) -> bool {
     let mut head = [0u8; 40];
     if io::read_full(STDIN_FILENO, &mut head) < 40 {
         return false;
     }
-    take(first, second, record_of(&head));
+    take(first, second, third, record_of(&head));
     true
 }
 
 // A proved loop has to end: it counts its turns down from a number that no file of records uses up.
-fn run(first: &mut [u8], second: &mut [u8]) {
+fn run(first: &mut [u8], second: &mut [u8], third: &mut [u8]) {
     let mut turns = u64::MAX;
-    while turns > 0 && step(first, second) {
+    while turns > 0 && step(first, second, third) {
         turns -= 1;
     }
 }
@@ -220,5 +234,6 @@ fn run(first: &mut [u8], second: &mut [u8]) {
 fn main() {
     let mut first = [0u8; 131072];
     let mut second = [0u8; 131072];
-    run(&mut first, &mut second);
+    let mut third = [0u8; 4096];
+    run(&mut first, &mut second, &mut third);
 }

@@ -46,19 +46,19 @@ abbrev pub Demand1 : Type 0
 Demand1 =
     ((xs : List ℕ) (r : Reading) → Reads xs r → Numbered xs None (r .number) (r .index))
     × ((s : List ℕ) (r : SheetReading) → ReadsSheet s r → (r .number ≡ 0) ⊎ (r .number ≡ 15))
-    × ((xs s : List ℕ) (base : ℕ) (r : Moved) (ys : List ℕ) → Releases xs s base r ys → Numbered xs OwnRelease (r .number) (r .index) ×
-    ((r .number ≡ 0 → ⊥) → ys ≡ xs))
+    × ((xs s : List ℕ) (base : ℕ) (o : List ℕ) (owner : ℕ) (r : Moved) (ys : List ℕ) → Releases xs s base o owner r ys
+    → Numbered xs OwnRelease (r .number) (r .index) × ((r .number ≡ 0 → ⊥) → ys ≡ xs))
     × ((xs : List ℕ) (offset size k : ℕ) → NumberOf xs offset size k → Numbered xs OwnLookup k 0)
     × ((xs ys places : List ℕ) (a : Audited) (l : List ℕ) → Audits xs ys places a l → Numbered xs OwnAudit (a .number) (a .index) ×
     ((a .number ≡ 0 → ⊥) → l ≡ places))
     × ((xs ys bytes : List ℕ) (a : Audited) (l : List ℕ) → AuditsBytes xs ys bytes a l → Numbered xs OwnAudit (a .number) (a .index) ×
     ((a .number ≡ 0 → ⊥) → l ≡ bytes))
 
--- ---- demand 2, over the two steps of a release that is accepted: what it answers; that each byte of the sheet's entries is its body's, that
--- the difference is added to each word of the move, that no byte is both, and that every other byte is what it was; that the image then
--- reads at the new base; that either step may come first; and what an empty sheet and the present base do
+-- ---- demand 2, over the two steps of a release that is accepted: what it answers; that each byte of the sheet's entries is its body's,
+-- that the difference is added to each word of the move, that no byte is both, and that every other byte is what it was; that the image
+-- then reads at the new base; that either step may come first; and what an empty sheet and the present base do
 
-pub record Released-right (xs s : List ℕ) (base : ℕ) (r : Moved) (ys : List ℕ) : Type 0 where
+pub record Released-right (xs s : List ℕ) (base : ℕ) (o : List ℕ) (owner : ℕ) (r : Moved) (ys : List ℕ) : Type 0 where
   pub answer : r ≡ acceptedMove (reading xs) base
   pub entries : (i j : ℕ) → i < count s → j < size s i → getD ys (reading xs .c + offset s i + j) 0 ≡ getD s (bodyAt s i + j) 0
   pub words : (j : ℕ) → j < suc (reading xs .n)
@@ -71,19 +71,21 @@ pub record Released-right (xs s : List ℕ) (base : ℕ) (r : Moved) (ys : List 
   pub move-first : ys ≡ setImage (movedImage xs base) s
   pub empty : count s ≡ 0 → ys ≡ movedImage xs base
   pub present : base ≡ reading xs .base → ys ≡ setImage xs s
-  pub back : count s ≡ 0 → (m : Moved) (zs : List ℕ) → Releases ys s (reading xs .base) m zs → (m .number ≡ 0) × (zs ≡ xs)
+  pub back : count s ≡ 0 → (m : Moved) (zs : List ℕ) → Releases ys s (reading xs .base) o owner m zs → (m .number ≡ 0) × (zs ≡ xs)
 
 abbrev pub Demand2 : Type 0
 Demand2 =
-    (xs s : List ℕ) (base : ℕ) (r : Moved) (ys : List ℕ) → Bytes xs → Bytes s → Releases xs s base r ys → r .number ≡ 0
-    → Released-right xs s base r ys
+    (xs s : List ℕ) (base : ℕ) (o : List ℕ) (owner : ℕ) (r : Moved) (ys : List ℕ) → Bytes xs → Bytes s → Releases xs s base o owner r ys
+    → r .number ≡ 0
+    → Released-right xs s base o owner r ys
 
--- ---- and a release is accepted exactly where the image reads, the sheet passes 15 to 17 for it, and the base is legal
+-- ---- and a release is accepted exactly where the image reads, the sheet passes 15 to 17 for it, the list is good, every byte of the sheet
+-- is the caller's, and the base is legal
 
 abbrev pub Demand2-accepted : Type 0
 Demand2-accepted =
-    (xs s : List ℕ) (base : ℕ) (r : Moved) (ys : List ℕ) → Releases xs s base r ys
-    → (r .number ≡ 0 → Releasable xs s base) × (Releasable xs s base → r .number ≡ 0)
+    (xs s : List ℕ) (base : ℕ) (o : List ℕ) (owner : ℕ) (r : Moved) (ys : List ℕ) → Releases xs s base o owner r ys
+    → (r .number ≡ 0 → Releasable xs s base o owner) × (Releasable xs s base o owner → r .number ≡ 0)
 
 -- ---- demand 3, an audit of a file of the vendor image's length that has a legal base: ks are the positions where it isn't the
 -- reference, each once and ascending, and no others; base and counts are true; with room the list has each of them, marked as a setting
@@ -110,19 +112,20 @@ Demand3 =
     (xs ys places : List ℕ) (a : Audited) (l : List ℕ) → Bytes xs → reading xs .number ≡ 0 → length ys ≡ length xs
     → Holds (legalBase (length xs) (shippedBase xs ys)) → Audits xs ys places a l → (ks : List ℕ) × Audited-right xs ys places a l ks
 
--- ---- explained means released: an accepted audit says "explained" exactly where one release, some sheet and some legal base, makes the
--- file of the vendor image, and names that base
+-- ---- explained means released: an accepted audit says "explained" exactly where one release, some sheet and some legal base by some owner
+-- of some list, makes the file of the vendor image, and names that base
 
 abbrev pub Explained-released : Type 0
 Explained-released =
     (xs ys places : List ℕ) (a : Audited) (l : List ℕ) → Bytes xs → Bytes ys → a .number ≡ 0 → Audits xs ys places a l
-    → (a .explained ≡ true → (s : List ℕ) × Makes xs ys (a .base) s) ×
-    ((base : ℕ) (s : List ℕ) → Makes xs ys base s → (a .explained ≡ true) × (a .base ≡ base))
+    → (a .explained ≡ true → (s : List ℕ) × (o : List ℕ) × Makes xs ys (a .base) s o 1) ×
+    ((base : ℕ) (s o : List ℕ) (owner : ℕ) → Makes xs ys base s o owner → (a .explained ≡ true) × (a .base ≡ base))
 
 -- ---- any chain of accepted releases is one release to its last base
 
 abbrev pub Chain-one : Type 0
-Chain-one = (xs zs : List ℕ) (base : ℕ) → Bytes xs → reading xs .number ≡ 0 → Made xs zs base → (s : List ℕ) × Makes xs zs base s
+Chain-one =
+    (xs zs : List ℕ) (base : ℕ) → Bytes xs → reading xs .number ≡ 0 → Made xs zs base → (s : List ℕ) × (o : List ℕ) × Makes xs zs base s o 1
 
 -- ---- they hold
 
@@ -135,35 +138,35 @@ pub demand-1 : Demand1
 demand-1 = (
   (λ xs r is. rw is (numbered xs)),
   (λ s r is. rw is (sheet-numbered s)),
-  (λ xs s base r ys is. rw (is .0, is .1) (release-numbered xs s base, release-kept xs s base)),
+  (λ xs s base o owner r ys is. rw (is .0, is .1) (release-numbered xs s base o owner, release-kept xs s base o owner)),
   (λ xs offset size k is. rw is (lookup-numbered xs offset size)),
   (λ xs ys places a l is. rw (is .0, is .1) (audit-numbered xs ys (length places), list-kept xs ys places)),
   (λ xs ys bytes a l is. rw (is .0, is .1) (audit-numbered xs ys (length bytes / 4), bytes-kept xs ys bytes)),
 )
 
 pub demand-2 : Demand2
-demand-2 xs s base r ys bx bs (answer, image) zero =
-    let ok : releasing xs s base .number ≡ 0 = sym (ap (λ (m : Moved). m .number) answer) ∙ zero in
+demand-2 xs s base o owner r ys bx bs (answer, image) zero =
+    let ok : releasing xs s base o owner .number ≡ 0 = sym (ap (λ (m : Moved). m .number) answer) ∙ zero in
     record {
-      answer = answer ∙ release-accepted xs s base (release-shows xs s base ok);
-      entries = rw image (released-entry xs s base ok bx bs);
-      words = rw image (released-word xs s base ok bx bs);
-      apart = entry-beside xs s (released-fits xs s base ok);
-      others = rw image (released-other xs s base ok bx bs);
-      reads = rw image (released-reads xs s base ok bx bs);
-      set-first = image ∙ set-then-moved xs s base ok;
-      move-first = image ∙ moved-then-set xs s base ok bx bs;
-      empty = λ none. image ∙ empty-moves xs s base ok bx bs none;
-      present = λ same. image ∙ present-sets xs s base ok bx bs same;
+      answer = answer ∙ release-accepted xs s base o owner (release-shows xs s base o owner ok);
+      entries = rw image (released-entry xs s base o owner ok bx bs);
+      words = rw image (released-word xs s base o owner ok bx bs);
+      apart = entry-beside xs s (released-fits xs s base o owner ok);
+      others = rw image (released-other xs s base o owner ok bx bs);
+      reads = rw image (released-reads xs s base o owner ok bx bs);
+      set-first = image ∙ set-then-moved xs s base o owner ok;
+      move-first = image ∙ moved-then-set xs s base o owner ok bx bs;
+      empty = λ none. image ∙ empty-moves xs s base o owner ok bx bs none;
+      present = λ same. image ∙ present-sets xs s base o owner ok bx bs same;
       back = λ none m zs is.
-          let (goes, home) = there-and-back xs s base bx bs none ok in
+          let (goes, home) = there-and-back xs s base o owner bx bs none ok in
           (ap (λ (q : Moved). q .number) (is .0) ∙ rw image goes, is .1 ∙ rw image home);
     }
 
 pub demand-2-accepted : Demand2-accepted
-demand-2-accepted xs s base r ys (answer, image) = (
-  (λ zero. release-shows xs s base (sym (ap (λ (m : Moved). m .number) answer) ∙ zero)),
-  λ h. ap (λ (m : Moved). m .number) (answer ∙ release-accepted xs s base h),
+demand-2-accepted xs s base o owner r ys (answer, image) = (
+  (λ zero. release-shows xs s base o owner (sym (ap (λ (m : Moved). m .number) answer) ∙ zero)),
+  λ h. ap (λ (m : Moved). m .number) (answer ∙ release-accepted xs s base o owner h),
 )
 
 pub demand-3 : Demand3
@@ -198,15 +201,15 @@ explained-released xs ys places a l bx by zero (answer, list) = (shown, said)
     passed : Accepted xs ys (length places)
     passed = audit-accepted xs ys (length places) ok
 
-    shown : a .explained ≡ true → (s : List ℕ) × Makes xs ys (a .base) s
+    shown : a .explained ≡ true → (s : List ℕ) × (o : List ℕ) × Makes xs ys (a .base) s o 1
     shown e =
         rw (answer, names xs ys (length places) ok)
         (explains-made xs ys bx by (passed .read) (shippedBase xs ys)
         (explained-shows xs ys bx (passed .read) places (passed .paired) (passed .legal) (fits xs ys (length places) ok) (rw answer at e)))
 
-    said : (base : ℕ) (s : List ℕ) → Makes xs ys base s → (a .explained ≡ true) × (a .base ≡ base)
-    said base s m =
-        let made : Made xs ys base = rw (m .is) at (then start s base (m .bytes) (m .goes)) in
+    said : (base : ℕ) (s o : List ℕ) (owner : ℕ) → Makes xs ys base s o owner → (a .explained ≡ true) × (a .base ≡ base)
+    said base s o owner m =
+        let made : Made xs ys base = rw (m .is) at (then start s base o owner (m .bytes) (m .goes)) in
         rw answer (made-explained xs ys places base (passed .read) bx made (fits xs ys (length places) ok))
 
 pub chain-one : Chain-one

@@ -3,7 +3,10 @@ pub mod Made
 pub mod Explained
 pub mod Always
 pub mod Sheets
+pub mod Lists
 pub mod Makes
 pub mod Demands
 pub mod Met
+pub mod Isolation
+pub mod IsolationMet
 pub mod Reserved

@@ -139,7 +139,8 @@ module _ (xs : List ℕ) (ok : reading xs .number ≡ 0) (bytes : Bytes xs) wher
           legal = fine-base;
           long = length-after zs bz read next goes ∙ e .long;
           same = λ k out.
-              moves-alike (movedImage xs base) zs fine long same (bytes-after xs bytes ok base (e .legal)) bz next fine-base′ k (rw reads out)
+              moves-alike (movedImage xs base) zs fine long same (bytes-after xs bytes ok base (e .legal)) bz next fine-base′ k
+              (rw reads out)
               ∙ ap (λ (l : List ℕ). getD l k 0) (moved-on xs bytes ok base (e .legal) next fine-base);
         }
 
@@ -153,14 +154,14 @@ module _ (xs : List ℕ) (ok : reading xs .number ≡ 0) (bytes : Bytes xs) wher
         }
 
   -- so it is after a release, by the new base
-  pub explains-released : (zs : List ℕ) (base : ℕ) → Bytes zs → Explains xs zs base → (s : List ℕ) (next : ℕ) → Bytes s
-      → releasing zs s next .number ≡ 0
-      → Explains xs (releasedImage zs s next) next
-  explains-released zs base bz e s next bs goes =
-      let fit = released-fits zs s next goes in
-      rw (set-then-moved zs s next goes)
+  pub explains-released : (zs : List ℕ) (base : ℕ) → Bytes zs → Explains xs zs base → (s : List ℕ) (next : ℕ) (o : List ℕ) (owner : ℕ)
+      → Bytes s → releasing zs s next o owner .number ≡ 0
+      → Explains xs (releasedImage zs s next o owner) next
+  explains-released zs base bz e s next o owner bs goes =
+      let fit = released-fits zs s next o owner goes in
+      rw (set-then-moved zs s next o owner goes)
       (explains-moved (setImage zs s) base (bytes-after-set zs s fit bz bs) (explains-set zs base bz e s fit) next
-      (rw (length-after-set zs s fit) (released-legal zs s next goes)))
+      (rw (length-after-set zs s fit) (released-legal zs s next o owner goes)))
 
   -- the vendor image is explained by its own base
   pub explains-start : Explains xs xs (reading xs .base)
@@ -172,16 +173,17 @@ module _ (xs : List ℕ) (ok : reading xs .number ≡ 0) (bytes : Bytes xs) wher
         same = λ k out. ap (λ (l : List ℕ). getD l k 0) (sym (moved-nowhere xs bytes ok));
       }
 
--- what a chain of accepted releases makes of xs, and its last base
+-- what a chain of accepted releases, by any owners of any lists, makes of xs, and its last base
 pub data Made (xs : List ℕ) : List ℕ → ℕ → Type 0 where
   start : Made xs xs (reading xs .base)
-  then : {zs : List ℕ} {base : ℕ} → Made xs zs base → (s : List ℕ) (next : ℕ) → Bytes s → releasing zs s next .number ≡ 0
-      → Made xs (releasedImage zs s next) next
+  then : {zs : List ℕ} {base : ℕ} → Made xs zs base → (s : List ℕ) (next : ℕ) (o : List ℕ) (owner : ℕ) → Bytes s
+      → releasing zs s next o owner .number ≡ 0
+      → Made xs (releasedImage zs s next o owner) next
 
 -- all of it is explained by that base
 pub made-explains : (xs : List ℕ) → reading xs .number ≡ 0 → Bytes xs → {zs : List ℕ} {base : ℕ} → Made xs zs base
     → Bytes zs × Explains xs zs base
 made-explains xs ok bytes start = (bytes, explains-start xs ok bytes)
-made-explains xs ok bytes (then {zs} {base} m s next bs goes) =
+made-explains xs ok bytes (then {zs} {base} m s next o owner bs goes) =
     let (bz, e) = made-explains xs ok bytes m in
-    (bytes-released zs s next goes bz bs, explains-released xs ok bytes zs base bz e s next bs goes)
+    (bytes-released zs s next o owner goes bz bs, explains-released xs ok bytes zs base bz e s next o owner bs goes)

@@ -1,4 +1,5 @@
--- What is explained can be made: one release, some sheet and the base, turns the vendor image into the shipped file.
+-- What is explained can be made: one release, some sheet and the base, by owner 1 of the list that gives it every setting, turns the vendor
+-- image into the shipped file.
 -- Assumes nothing.
 use Prim.Native.Nat.{ℕ, _+_, _-_, _*_, _^_, _≤_, _<_}
 use mathlib.Core.List.{List, []}
@@ -19,6 +20,7 @@ use Rattle.image.specs.Guarantee.{Guaranteed, guaranteed}
 use Rattle.moving.specs.Moving.{movedImage}
 use Rattle.sheet.specs.Sheet.{sheetIdentity, count, offset, size, bodyAt, sameIdentity, Sound}
 use Rattle.sheet.specs.Set.{setImage, Fits}
+use Rattle.owners.specs.Owners.{listFits, fieldsOwned}
 use Rattle.steps.specs.MoveStep.{length-after, moved-reads}
 use Rattle.steps.specs.SetStep.{length-after-set, kept-outside, set-byte, set-empty}
 use Rattle.steps.specs.TwoSteps.{fits-moved}
@@ -26,13 +28,14 @@ use Rattle.release.specs.Release.{releasing, releasedImage}
 use Rattle.release.specs.ReleaseLaws.{release-goes}
 use Rattle.released.specs.Theorems.{moved-then-set}
 use Rattle.demands.specs.Explains.{Explains}
+use Rattle.demands.specs.Lists.{all-to-1, all-good, all-owned, empty-good}
 use Rattle.demands.specs.Sheets.{whole, whole-names, whole-count, whole-byte, whole-offset, whole-size, whole-sound, whole-bytes, bare, bare-names, bare-count, bare-sound, bare-bytes}
 
--- the release of xs with this sheet to this base is accepted, and makes ys
-pub record Makes (xs ys : List ℕ) (base : ℕ) (s : List ℕ) : Type 0 where
+-- the release of xs with this sheet to this base, by this owner of this list, is accepted, and makes ys
+pub record Makes (xs ys : List ℕ) (base : ℕ) (s o : List ℕ) (owner : ℕ) : Type 0 where
   pub bytes : Bytes s
-  pub goes : releasing xs s base .number ≡ 0
-  pub is : releasedImage xs s base ≡ ys
+  pub goes : releasing xs s base o owner .number ≡ 0
+  pub is : releasedImage xs s base o owner ≡ ys
 
 module _ (xs ys : List ℕ) (bx : Bytes xs) (by : Bytes ys) (ok : reading xs .number ≡ 0) (base : ℕ) (e : Explains xs ys base) where
   abbrev ms : List ℕ
@@ -66,10 +69,11 @@ module _ (xs ys : List ℕ) (bx : Bytes xs) (by : Bytes ys) (ok : reading xs .nu
       omega (arith, extended-small xs (reading xs .H) bx)
 
   -- where setting the bytes of a sheet that fits in the moved image makes ys, the release with it does
-  made-by : (s : List ℕ) → Bytes s → Fits xs s → setImage ms s ≡ ys → Makes xs ys base s
-  made-by s bs fit is =
-      let ok′ = release-goes xs s base (fit, e .legal) in
-      record { bytes = bs; goes = ok′; is = moved-then-set xs s base ok′ bx bs ∙ is }
+  made-by : (s o : List ℕ) → Bytes s → Fits xs s → Holds (listFits o (reading xs .z)) → Holds (fieldsOwned s o 1) → setImage ms s ≡ ys
+      → Makes xs ys base s o 1
+  made-by s o bs fit good own is =
+      let ok′ = release-goes xs s base o 1 (record { fits = fit; good = (good, inl refl); own = own; legal = e .legal }) in
+      record { bytes = bs; goes = ok′; is = moved-then-set xs s base o 1 ok′ bx bs ∙ is }
 
   -- the shipped file's own settings part
   abbrev part : List ℕ
@@ -103,6 +107,18 @@ module _ (xs ys : List ℕ) (bx : Bytes xs) (by : Bytes ys) (ok : reading xs .nu
     fit : Fits xs s
     fit = record { read = ok; sound = sound; names = whole-names (reading xs .identity) part image revision extended }
 
+    most : reading xs .z ≤ 65536
+    most = omega (arith, guaranteed xs ok)
+
+    good : Holds (listFits (all-to-1 (reading xs .z)) (reading xs .z))
+    good = all-good (reading xs .z) some most
+
+    -- its one entry lies in the settings part, and all of that is owner 1's
+    own : Holds (fieldsOwned s (all-to-1 (reading xs .z)) 1)
+    own i h j l =
+        let f = sound .fields i h in
+        all-owned (reading xs .z) some most (offset s i + j) (omega arith) (omega arith)
+
     after : Fits ms s
     after = fits-moved xs s base bx fit (e .legal)
 
@@ -114,7 +130,6 @@ module _ (xs ys : List ℕ) (bx : Bytes xs) (by : Bytes ys) (ok : reading xs .nu
     unfolding bodyAt
     inside j h =
         let n = whole-count (reading xs .identity) part image revision extended in
-        let most : reading xs .z ≤ 65536 = omega (arith, guaranteed xs ok) in
         let at = whole-offset (reading xs .identity) part image revision extended (reading xs .z) some most part-long in
         let wide = whole-size (reading xs .identity) part image revision extended (reading xs .z) some most part-long in
         let set : getD (setImage ms s) (reading ms .c + offset s 0 + j) 0 ≡ getD s (bodyAt s 0 + j) 0 =
@@ -124,9 +139,9 @@ module _ (xs ys : List ℕ) (bx : Bytes xs) (by : Bytes ys) (ok : reading xs .nu
         let to : reading ms .c + offset s 0 + j ≡ reading xs .c + 32 + j = omega arith in
         rw to at set ∙ rw from (whole-byte (reading xs .identity) part image revision extended j) ∙ part-byte j h
 
-    one-sheet : Makes xs ys base s
+    one-sheet : Makes xs ys base s (all-to-1 (reading xs .z)) 1
     one-sheet =
-        made-by s (whole-bytes (reading xs .identity) part part-bytes) fit
+        made-by s (all-to-1 (reading xs .z)) (whole-bytes (reading xs .identity) part part-bytes) fit good own
         (ext-getD 0 (setImage ms s) ys (length-after-set ms s after ∙ sym long) (λ k h. byte k))
       where
         byte : (k : ℕ) → getD (setImage ms s) k 0 ≡ getD ys k 0
@@ -157,9 +172,12 @@ module _ (xs ys : List ℕ) (bx : Bytes xs) (by : Bytes ys) (ok : reading xs .nu
           names = bare-names (reading xs .identity) [] image revision extended;
         }
 
-    no-sheet : Makes xs ys base empty
+    none-owned : Holds (fieldsOwned empty [] 1)
+    none-owned i h = absurd (omega (arith, bare-count (reading xs .identity) [] image revision extended))
+
+    no-sheet : Makes xs ys base empty [] 1
     no-sheet =
-        made-by empty (bare-bytes (reading xs .identity) []) fitting
+        made-by empty [] (bare-bytes (reading xs .identity) []) fitting (empty-good (reading xs .z)) none-owned
         (set-empty ms empty (fits-moved xs empty base bx fitting (e .legal)) (bare-count (reading xs .identity) [] image revision extended)
         ∙ ext-getD 0 ms ys (sym long) (λ k h. sym (e .same k (either k))))
       where
@@ -167,5 +185,9 @@ module _ (xs ys : List ℕ) (bx : Bytes xs) (by : Bytes ys) (ok : reading xs .nu
         either k = elim (decLt k (reading xs .c + 32)) [ yes h ↦ inl h | no h ↦ inr (omega arith) ]
 
   -- what is explained can be made
-  pub explains-made : (s : List ℕ) × Makes xs ys base s
-  explains-made = elim (decLt 32 (reading xs .z)) [ yes h ↦ (s h, one-sheet h) | no h ↦ (empty (omega arith), no-sheet (omega arith)) ]
+  pub explains-made : (s : List ℕ) × (o : List ℕ) × Makes xs ys base s o 1
+  explains-made =
+      elim (decLt 32 (reading xs .z)) [
+        | yes h ↦ (s h, all-to-1 (reading xs .z), one-sheet h)
+        | no h ↦ (empty (omega arith), [], no-sheet (omega arith))
+      ]

@@ -21,7 +21,7 @@ use Rattle.image.specs.Small.{small, settingBytes, small-reads}
 use Rattle.moving.specs.declared.Moved.{Moved}
 use Rattle.sheet.specs.Small.{sample}
 use Rattle.release.specs.Release.{releasing, releasedImage}
-use Rattle.released.specs.Small.{small-release, small-released}
+use Rattle.released.specs.Small.{two, small-release, small-released}
 use Rattle.demands.specs.Made.{Made, start, then}
 use Rattle.audit.specs.Audit.{shippedBase}
 use Rattle.audit.specs.Small.{shipped}
@@ -31,7 +31,7 @@ abbrev all-bytes : List ℕ → Bool
 all-bytes [] = true
 all-bytes (x ∷ l) = ltb x 256 && all-bytes l
 
-bytes-so : (l : List ℕ) → all-bytes l ≡ true → Bytes l
+pub bytes-so : (l : List ℕ) → all-bytes l ≡ true → Bytes l
 unfolding Bytes
 bytes-so [] e k = omega arith
 bytes-so (x ∷ l) e zero = ltb-true x 256 (and-left (ltb x 256) (all-bytes l) e)
@@ -47,26 +47,26 @@ maker-bytes = bytes-so maker refl
 pub maker-reads : reading maker .number ≡ 0
 maker-reads = ap (λ (r : Reading). r .number) small-reads
 
--- a sheet and a base with which it can be released
+-- a sheet, a base, a list and an owner with which it can be released
 pub sample-bytes : Bytes sample
 unfolding sample number digit
 sample-bytes = bytes-so sample refl
 
-pub maker-goes : releasing maker sample 0x00100000 .number ≡ 0
+pub maker-goes : releasing maker sample 0x00100000 two 1 .number ≡ 0
 maker-goes = ap (λ (m : Moved). m .number) small-release
 
 -- the release sets, and it moves
-pub maker-sets : getD (releasedImage maker sample 0x00100000) 228 0 ≡ getD maker 228 0 → ⊥
+pub maker-sets : getD (releasedImage maker sample 0x00100000 two 1) 228 0 ≡ getD maker 228 0 → ⊥
 unfolding small number zeros digit
 maker-sets same = let e : _≡_ {A = ℕ} 1 0 = sym (ap (λ (l : List ℕ). getD l 228 0) small-released) ∙ same in omega arith
 
-pub maker-moves : getD (releasedImage maker sample 0x00100000) 130 0 ≡ getD maker 130 0 → ⊥
+pub maker-moves : getD (releasedImage maker sample 0x00100000 two 1) 130 0 ≡ getD maker 130 0 → ⊥
 unfolding small number zeros digit
 maker-moves same = let e : _≡_ {A = ℕ} 0x10 0xF8 = sym (ap (λ (l : List ℕ). getD l 130 0) small-released) ∙ same in omega arith
 
 -- a chain of one
 pub maker-chain : Made maker (small 0x00100000 0x00100040 (settingBytes 1 0)) 0x00100000
-maker-chain = rw small-released at (then start sample 0x00100000 sample-bytes maker-goes)
+maker-chain = rw small-released at (then start sample 0x00100000 two 1 sample-bytes maker-goes)
 
 -- a shipped file of its length with a legal base
 pub shipped-long : length shipped ≡ length maker

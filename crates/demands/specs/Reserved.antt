@@ -34,7 +34,8 @@ Unreserved xs = let r = reading xs in (i : ℕ) → i < r .n → Holds (reserved
 abbrev pub Accepts-unreserved : Type 0
 Accepts-unreserved =
     ((xs : List ℕ) (r : Reading) → Reads xs r → r .number ≡ 0 → Unreserved xs)
-    × ((xs s : List ℕ) (base : ℕ) (r : Moved) (ys : List ℕ) → Releases xs s base r ys → r .number ≡ 0 → Unreserved xs)
+    × ((xs s : List ℕ) (base : ℕ) (o : List ℕ) (owner : ℕ) (r : Moved) (ys : List ℕ) → Releases xs s base o owner r ys → r .number ≡ 0
+    → Unreserved xs)
     × ((xs : List ℕ) (offset size k : ℕ) → NumberOf xs offset size k → k ≡ 0 → Unreserved xs)
     × ((xs ys places : List ℕ) (a : Audited) (l : List ℕ) → Audits xs ys places a l → a .number ≡ 0 → Unreserved xs)
     × ((xs ys bytes : List ℕ) (a : Audited) (l : List ℕ) → AuditsBytes xs ys bytes a l → a .number ≡ 0 → Unreserved xs)
@@ -44,7 +45,8 @@ Accepts-unreserved =
 abbrev pub Refuses-reserved : Type 0
 Refuses-reserved =
     (xs : List ℕ) (i : ℕ) → reading xs ≡ refusal 22 i
-    → ((s : List ℕ) (base : ℕ) (r : Moved) (ys : List ℕ) → Releases xs s base r ys → (r ≡ refusedMove 22 i) × (ys ≡ xs))
+    → ((s : List ℕ) (base : ℕ) (o : List ℕ) (owner : ℕ) (r : Moved) (ys : List ℕ) → Releases xs s base o owner r ys
+    → (r ≡ refusedMove 22 i) × (ys ≡ xs))
     × ((offset size k : ℕ) → NumberOf xs offset size k → k ≡ 22)
     × ((ys places : List ℕ) (a : Audited) (l : List ℕ) → Audits xs ys places a l → (a ≡ refusedAudit 22 i) × (l ≡ places))
     × ((ys bytes : List ℕ) (a : Audited) (l : List ℕ) → AuditsBytes xs ys bytes a l → (a ≡ refusedAudit 22 i) × (l ≡ bytes))
@@ -60,7 +62,8 @@ unreserved xs ok i h =
 pub accepts-unreserved : Accepts-unreserved
 accepts-unreserved = (
   (λ xs r is ok. unreserved xs (sym (ap (λ (q : Reading). q .number) is) ∙ ok)),
-  (λ xs s base r ys is ok. unreserved xs (release-shows xs s base (sym (ap (λ (q : Moved). q .number) (is .0)) ∙ ok) .0 .read)),
+  (λ xs s base o owner r ys is ok.
+      unreserved xs (release-shows xs s base o owner (sym (ap (λ (q : Moved). q .number) (is .0)) ∙ ok) .fits .read)),
   (λ xs offset size k is ok. unreserved xs (setting-passed xs offset size (sym is ∙ ok) .0)),
   (λ xs ys places a l is ok.
       unreserved xs (audit-accepted xs ys (length places) (sym (ap (λ (q : Audited). q .number) (is .0)) ∙ ok) .read)),
@@ -70,7 +73,8 @@ accepts-unreserved = (
 
 pub refuses-reserved : Refuses-reserved
 refuses-reserved xs i e = (
-  (λ s base r ys is. let n = released s base in (is .0 ∙ n, is .1 ∙ release-kept xs s base (unaccepted s base))),
+  (λ s base o owner r ys is.
+      let n = released s base o owner in (is .0 ∙ n, is .1 ∙ release-kept xs s base o owner (unaccepted s base o owner))),
   (λ offset size k is. is ∙ setting-unread xs offset size unread .0 ∙ ap (λ (r : Reading). r .number) e),
   (λ ys places a l is. let n = of ys (length places) in (is .0 ∙ n, is .1 ∙ list-kept xs ys places (none ys (length places)))),
   (λ ys bytes a l is. let n = of ys (length bytes / 4) in (is .0 ∙ n, is .1 ∙ bytes-kept xs ys bytes (none ys (length bytes / 4)))),
@@ -79,11 +83,12 @@ refuses-reserved xs i e = (
     unread : reading xs .number ≡ 0 → ⊥
     unread z = let k : _≡_ {A = ℕ} 22 0 = sym (ap (λ (r : Reading). r .number) e) ∙ z in omega arith
 
-    released : (s : List ℕ) (base : ℕ) → releasing xs s base ≡ refusedMove 22 i
-    released s base = rw e at (release-unread xs s base unread)
+    released : (s : List ℕ) (base : ℕ) (o : List ℕ) (owner : ℕ) → releasing xs s base o owner ≡ refusedMove 22 i
+    released s base o owner = rw e at (release-unread xs s base o owner unread)
 
-    unaccepted : (s : List ℕ) (base : ℕ) → releasing xs s base .number ≡ 0 → ⊥
-    unaccepted s base z = let k : _≡_ {A = ℕ} 22 0 = sym (ap (λ (m : Moved). m .number) (released s base)) ∙ z in omega arith
+    unaccepted : (s : List ℕ) (base : ℕ) (o : List ℕ) (owner : ℕ) → releasing xs s base o owner .number ≡ 0 → ⊥
+    unaccepted s base o owner z =
+        let k : _≡_ {A = ℕ} 22 0 = sym (ap (λ (m : Moved). m .number) (released s base o owner)) ∙ z in omega arith
 
     of : (ys : List ℕ) (room : ℕ) → auditing xs ys room ≡ refusedAudit 22 i
     of ys room = rw e at (audit-unread xs ys room unread)

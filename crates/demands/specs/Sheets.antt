@@ -14,17 +14,17 @@ use Rattle.image.specs.declared.Identity.{Identity}
 use Rattle.sheet.specs.Sheet.{sheetIdentity, count, offset, size, position, bodyAt, contentsFit, bodiesFit, sameIdentity, fieldFits, Sound}
 
 -- a number that stands first
-at-number : (k w : ℕ) (b : List ℕ) → w < 256 ^ k → le k (number k w ++ b) 0 ≡ w
+pub at-number : (k w : ℕ) (b : List ℕ) → w < 256 ^ k → le k (number k w ++ b) 0 ≡ w
 at-number k w b h = le-front k (number k w) b 0 (omega (arith, length-number k w)) ∙ le-number k w ∙ mod-eq-of-lt h
 
 -- what stands after one
-past-number : (k j w : ℕ) (b : List ℕ) (at : ℕ) → le k (number j w ++ b) (j + at) ≡ le k b at
+pub past-number : (k j w : ℕ) (b : List ℕ) (at : ℕ) → le k (number j w ++ b) (j + at) ≡ le k b at
 past-number k j w b at = let e : length (number j w) ≡ j = length-number j w in rw e at (le-back k (number j w) b at)
 
 byte-past : (j w : ℕ) (b : List ℕ) (i : ℕ) → getD (number j w ++ b) (j + i) 0 ≡ getD b i 0
 byte-past j w b i = let e : length (number j w) ≡ j = length-number j w in rw e at (getD-append-add (number j w) b i 0)
 
-length-past : (j w : ℕ) (b : List ℕ) → length (number j w ++ b) ≡ j + length b
+pub length-past : (j w : ℕ) (b : List ℕ) → length (number j w ++ b) ≡ j + length b
 length-past j w b = length-append (number j w) b ∙ omega (arith, length-number j w)
 
 module _ (i : Identity) (part : List ℕ) where

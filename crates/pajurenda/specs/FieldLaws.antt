@@ -32,7 +32,7 @@ use Rattle.sheet.specs.ReadSheet.{sheetReading}
 use Rattle.lookup.specs.Setting.{settingNumber}
 use Rattle.lookup.specs.SettingLaws.{setting-passed}
 use Rattle.lookup.specs.Theorems.{OwnLookup, lookup-numbered}
-use Rattle.release.specs.Release.{releaseRules, releasing}
+use Rattle.release.specs.Release.{nameRules, releaseRules, releasing}
 use Rattle.released.specs.Theorems.{OwnRelease, release-numbered}
 use Rattle.walk.specs.Differences.{agrees, differences, setting, entry, settings, strays, flips, bits, entries}
 use Rattle.walk.specs.DifferenceLaws.{counts, few}
@@ -55,7 +55,7 @@ small-at (x ∷ l) (h, t) zero = h
 small-at (x ∷ l) (h, t) (suc j) = small-at l t j
 
 -- a number of a call, and an index
-number-small : (xs : List ℕ) (own : ℕ → Type 0) (number index : ℕ) → ((k : ℕ) → own k → k ≤ 20) → Numbered xs own number index
+number-small : (xs : List ℕ) (own : ℕ → Type 0) (number index : ℕ) → ((k : ℕ) → own k → k ≤ 24) → Numbered xs own number index
     → number < 2 ^ 64
 number-small xs own number index most h =
     elim (h .known) [ inl (inl l) ↦ omega arith | inl (inr l) ↦ omega arith | inr o ↦ omega (arith, most number o) ]
@@ -66,8 +66,25 @@ read-refused : (xs : List ℕ) → Bytes xs → (reading xs .number ≡ 0 → �
 read-refused xs b h =
     let small = number-small xs _ _ _ (λ k o. absurd o) (numbered xs) in
     let at = index-small xs _ _ _ b (numbered xs) in
-    rw (refused-is xs h)
-    (small, (omega arith, (omega arith, (omega arith, (omega arith, (omega arith, (omega arith, (omega arith, (omega arith, (omega arith, (omega arith, (omega arith, tt))))))))))))
+    rw (refused-is xs h) (
+      small,
+      (
+        omega arith,
+        (
+          omega arith,
+          (
+            omega arith,
+            (
+              omega arith,
+              (
+                omega arith,
+                (omega arith, (omega arith, (omega arith, (omega arith, (omega arith, (omega arith, tt)))))),
+              ),
+            ),
+          ),
+        ),
+      ),
+    )
 
 read-accepted : (xs : List ℕ) → Bytes xs → reading xs .number ≡ 0 → Small (readFields (reading xs))
 unfolding identityAt
@@ -89,7 +106,22 @@ read-accepted xs b ok =
               omega (arith, le-lt 8 xs (reading xs .H + 16) b),
               (
                 omega (arith, le-lt 4 xs (reading xs .H + 12) b),
-                (omega (arith, g .legal), (omega (arith, g), (omega (arith, g), (omega (arith, g), (omega (arith, g), (omega (arith, extended-small xs (reading xs .H) b), tt)))))),
+                (
+                  omega (arith, g .legal),
+                  (
+                    omega (arith, g),
+                    (
+                      omega (arith, g),
+                      (
+                        omega (arith, g),
+                        (
+                          omega (arith, g),
+                          (omega (arith, extended-small xs (reading xs .H) b), tt),
+                        ),
+                      ),
+                    ),
+                  ),
+                ),
               ),
             ),
           ),
@@ -111,20 +143,30 @@ twos-small a (suc b) h = go (ltb a (suc b))
     go true = omega arith
     go false = omega arith
 
-pub release-small : (xs s : List ℕ) (base : ℕ) → Bytes xs → Small (moveFields (releasing xs s base))
-unfolding releasing releaseRules twos
-release-small xs s base b =
-    let numbers = release-numbered xs s base in
-    let far : twos (releasing xs s base .distance) < 2 ^ 64 =
+pub release-small : (xs s : List ℕ) (base : ℕ) (o : List ℕ) (owner : ℕ) → Bytes xs → Small (moveFields (releasing xs s base o owner))
+unfolding releasing releaseRules nameRules twos
+release-small xs s base o owner b =
+    let numbers = release-numbered xs s base o owner in
+    let far : twos (releasing xs s base o owner .distance) < 2 ^ 64 =
     after-every refusedMove (λ (m : Moved). twos (m .distance) < 2 ^ 64) xs _ (λ h. omega arith)
     (λ ok. (
       (λ h. omega arith),
       λ h. (
         (λ h. omega arith),
-        λ h. ((λ h. omega arith), λ h. ((λ h. omega arith), λ legal. twos-small base (reading xs .base) (omega (arith, legal)))),
+        λ h. (
+          (λ h. omega arith),
+          λ h. (
+            (λ h. omega arith),
+            λ h. ((λ h. omega arith), λ h. ((λ h. omega arith), λ legal. twos-small base (reading xs .base) (omega (arith, legal)))),
+          ),
+        ),
       ),
     )) in
-    (number-small xs OwnRelease _ _ (λ k o. omega arith) numbers, (omega (arith, index-small xs OwnRelease _ _ b numbers), (far, tt)))
+    (number-small xs OwnRelease _ _ own-most numbers, (omega (arith, index-small xs OwnRelease _ _ b numbers), (far, tt)))
+  where
+    own-most : (k : ℕ) → OwnRelease k → k ≤ 24
+    own-most k (inl h) = omega arith
+    own-most k (inr h) = omega arith
 
 -- ---- a sheet by itself
 

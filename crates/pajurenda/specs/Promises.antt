@@ -18,10 +18,10 @@ abbrev pub ReadCall : List ℕ → List ℕ → ℕ → List ℕ → Type 0
 ReadCall xs A r a = (r ≡ result 12 A (reading xs .number)) × (a ≡ answered A (readFields (reading xs)))
 
 -- `pajurenda_release`; ys is the image afterwards
-abbrev pub ReleaseCall : List ℕ → List ℕ → ℕ → List ℕ → ℕ → List ℕ → List ℕ → Type 0
-ReleaseCall xs s base A r ys a =
-    (r ≡ result 3 A (releasing xs s base .number))
-    × ((ys ≡ ifRoom 3 A (releasedImage xs s base) xs) × (a ≡ answered A (moveFields (releasing xs s base))))
+abbrev pub ReleaseCall : List ℕ → List ℕ → ℕ → List ℕ → ℕ → List ℕ → ℕ → List ℕ → List ℕ → Type 0
+ReleaseCall xs s base o owner A r ys a =
+    (r ≡ result 3 A (releasing xs s base o owner .number))
+    × ((ys ≡ ifRoom 3 A (releasedImage xs s base o owner) xs) × (a ≡ answered A (moveFields (releasing xs s base o owner))))
 
 -- `pajurenda_sheet`
 abbrev pub SheetCall : List ℕ → List ℕ → ℕ → List ℕ → Type 0

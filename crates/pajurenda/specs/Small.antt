@@ -18,7 +18,7 @@ use Rattle.sheet.specs.ReadSheet.{sheetReading}
 use Rattle.sheet.specs.Small.{sample}
 use Rattle.lookup.specs.Small.{small-found}
 use Rattle.release.specs.Release.{releasing}
-use Rattle.released.specs.Small.{small-release}
+use Rattle.released.specs.Small.{two, small-release}
 use Rattle.audit.specs.declared.Audited.{Audited}
 use Rattle.audit.specs.Audit.{auditing}
 use Rattle.audit.specs.Small.{shipped, small-audit}
@@ -41,7 +41,7 @@ unfolding ifRoom test putAll put digit number zeros
 read-answer = ap (λ (r : Reading). answered (zeros 96) (readFields r)) small-reads
 
 -- number, index, how far, in two's complement
-pub release-answer : answered (zeros 24) (moveFields (releasing maker sample 0x00100000))
+pub release-answer : answered (zeros 24) (moveFields (releasing maker sample 0x00100000 two 1))
     ≡ number 8 0 ++ (number 8 0 ++ number 8 (2 ^ 64 - 4293394432))
 unfolding ifRoom test putAll put digit number zeros twos
 release-answer = ap (λ (r : Moved). answered (zeros 24) (moveFields r)) small-release

@@ -71,9 +71,9 @@ module _ (xs ys bytes : List ℕ) where
 pub one-read-call : (xs A : List ℕ) (r s : ℕ) (a b : List ℕ) → ReadCall xs A r a → ReadCall xs A s b → (r ≡ s) × (a ≡ b)
 one-read-call xs A r s a b (e, f) (g, h) = (e ∙ sym g, f ∙ sym h)
 
-pub one-release-call : (xs sheet A : List ℕ) (base r s : ℕ) (a b m n : List ℕ) → ReleaseCall xs sheet base A r m a
-    → ReleaseCall xs sheet base A s n b → (r ≡ s) × (m ≡ n) × (a ≡ b)
-one-release-call xs sheet A base r s a b m n (e, (f, g)) (h, (k, l)) = (e ∙ sym h, f ∙ sym k, g ∙ sym l)
+pub one-release-call : (xs sheet o A : List ℕ) (base owner r s : ℕ) (a b m n : List ℕ) → ReleaseCall xs sheet base o owner A r m a
+    → ReleaseCall xs sheet base o owner A s n b → (r ≡ s) × (m ≡ n) × (a ≡ b)
+one-release-call xs sheet o A base owner r s a b m n (e, (f, g)) (h, (k, l)) = (e ∙ sym h, f ∙ sym k, g ∙ sym l)
 
 pub one-sheet-call : (sheet A : List ℕ) (r s : ℕ) (a b : List ℕ) → SheetCall sheet A r a → SheetCall sheet A s b → (r ≡ s) × (a ≡ b)
 one-sheet-call sheet A r s a b (e, f) (g, h) = (e ∙ sym g, f ∙ sym h)

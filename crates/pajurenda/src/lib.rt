@@ -14,20 +14,22 @@ pub extern "C" fn pajurenda_read(image: &[u8], answer: &mut [u8]) -> u32
     r.number
 }
 
-// Releases an image in place: a sheet's bytes set, then moved.
+// Releases an image in place, by one owner: a sheet's bytes set, then moved.
 #[no_mangle]
 pub extern "C" fn pajurenda_release(
     image: &mut [u8],
     sheet: &[u8],
     base: u64,
+    owners: &[u8],
+    owner: u64,
     answer: &mut [u8],
 ) -> u32
-    ensures { λ r. ⌜ ReleaseCall (now (image .entry)) (now (sheet .entry)) base (now (answer .entry)) r (now (image .exit)) (now (answer .exit)) ⌝ }
+    ensures { λ r. ⌜ ReleaseCall (now (image .entry)) (now (sheet .entry)) base (now (owners .entry)) owner (now (answer .entry)) r (now (image .exit)) (now (answer .exit)) ⌝ }
 {
     if answer.len() < 24 {
         return 100;
     }
-    let r = release::release(image, sheet, base);
+    let r = release::release(image, sheet, base, owners, owner);
     answers::write_moved(answer, r);
     r.number
 }

@@ -16,73 +16,79 @@ use Rattle.moving.specs.declared.Moved.{Moved}
 use Rattle.moving.specs.Moving.{refusedMove, acceptedMove}
 use Rattle.sheet.specs.Sheet.{Sound, sheetIdentity, sameIdentity}
 use Rattle.sheet.specs.Set.{setBy, setImage, Fits}
+use Rattle.owners.specs.Owners.{ownersFit, fieldsOwned}
 use Rattle.steps.specs.SetStep.{set-reads, read-after}
-use Rattle.release.specs.Release.{releaseRules, releasing, twoSteps, releasedImage, Releases}
+use Rattle.release.specs.Release.{nameRules, releaseRules, releasing, twoSteps, releasedImage, Releases}
 
 -- any two outcomes that the promise of a release admits are the same
-pub one-release : (xs s : List ℕ) (base : ℕ) (m n : Moved) (ys zs : List ℕ) → Releases xs s base m ys → Releases xs s base n zs
-    → (m ≡ n) × (ys ≡ zs)
-one-release xs s base m n ys zs (a, b) (c, d) = (a ∙ sym c, b ∙ sym d)
+pub one-release : (xs s : List ℕ) (base : ℕ) (o : List ℕ) (owner : ℕ) (m n : Moved) (ys zs : List ℕ) → Releases xs s base o owner m ys
+    → Releases xs s base o owner n zs → (m ≡ n) × (ys ≡ zs)
+one-release xs s base o owner m n ys zs (a, b) (c, d) = (a ∙ sym c, b ∙ sym d)
 
--- the sheet fits the image and the new base is legal
-abbrev pub Releasable : List ℕ → List ℕ → ℕ → Type 0
-Releasable xs s base = Fits xs s × Holds (legalBase (length xs) base)
+-- the sheet fits the image, its bytes are the caller's by a good list, and the new base is legal
+pub record Releasable (xs s : List ℕ) (base : ℕ) (o : List ℕ) (owner : ℕ) : Type 0 where
+  pub fits : Fits xs s
+  pub good : Holds (ownersFit o owner (reading xs .z))
+  pub own : Holds (fieldsOwned s o owner)
+  pub legal : Holds (legalBase (length xs) base)
 
--- what passes 15 to 18 is sound, names the image and has a legal base
-pub judged-shows : (r : Reading) (size : ℕ) (s : List ℕ) (base : ℕ) → run refusedMove (releaseRules r size s base) .number ≡ 0
-    → Sound s (r .z) × Holds (sameIdentity (sheetIdentity s) (r .identity)) × Holds (legalBase size base) ×
-    (run refusedMove (releaseRules r size s base) ≡ acceptedMove r base)
-unfolding releaseRules
-judged-shows r size s base e =
-    let (fits, (names, (fields, (legal, is)))) =
-    passed refusedMove (λ (m : Moved). m .number) (λ k i. refl) (releaseRules r size s base) refl e in
-    (record { contents = fits .0; bodies = fits .1; fields = fields }, names, legal, is)
+-- what an answer with number 0 has passed
+judged-shows : (r : Reading) (size : ℕ) (s : List ℕ) (base : ℕ) (o : List ℕ) (owner : ℕ)
+    → run refusedMove (releaseRules r size s base o owner) .number ≡ 0
+    → Sound s (r .z) × Holds (sameIdentity (sheetIdentity s) (r .identity)) × Holds (ownersFit o owner (r .z))
+    × Holds (fieldsOwned s o owner) × Holds (legalBase size base)
+unfolding releaseRules nameRules
+judged-shows r size s base o owner e =
+    let (fits, (good, (names, (fields, (own, (legal, is)))))) =
+    passed refusedMove (λ (m : Moved). m .number) (λ k i. refl) (releaseRules r size s base o owner) refl e in
+    (record { contents = fits .0; bodies = fits .1; fields = fields }, names, good, own, legal)
 
 -- once the sheet's bytes are set, the image is still what the move asks for
 pub set-guaranteed : (xs s : List ℕ) → Fits xs s → Guaranteed (setBy xs (reading xs) s) (reading xs)
 unfolding setImage
 set-guaranteed xs s fits = rw (set-reads xs s fits) at (guaranteed (setImage xs s) (read-after xs s fits))
 
-module _ (xs s : List ℕ) (base : ℕ) where
+module _ (xs s : List ℕ) (base : ℕ) (o : List ℕ) (owner : ℕ) where
   abbrev judged : Moved
-  judged = run refusedMove (releaseRules (reading xs) (length xs) s base)
+  judged = run refusedMove (releaseRules (reading xs) (length xs) s base o owner)
 
   -- a refused release changes nothing
-  pub release-kept : (releasing xs s base .number ≡ 0 → ⊥) → releasedImage xs s base ≡ xs
+  pub release-kept : (releasing xs s base o owner .number ≡ 0 → ⊥) → releasedImage xs s base o owner ≡ xs
   unfolding releasedImage
-  release-kept h = kept-so (releasing xs s base .number) (twoSteps xs s base) xs h
+  release-kept h = kept-so (releasing xs s base o owner .number) (twoSteps xs s base) xs h
 
-  pub release-unread : (reading xs .number ≡ 0 → ⊥) → releasing xs s base ≡ refusedMove (reading xs .number) (reading xs .index)
+  pub release-unread : (reading xs .number ≡ 0 → ⊥) → releasing xs s base o owner ≡ refusedMove (reading xs .number) (reading xs .index)
   unfolding releasing
-  release-unread h = after-refused refusedMove (reading xs) (releaseRules (reading xs) (length xs) s base) h
+  release-unread h = after-refused refusedMove (reading xs) (releaseRules (reading xs) (length xs) s base o owner) h
 
-  pub release-judged : reading xs .number ≡ 0 → releasing xs s base ≡ judged
+  pub release-judged : reading xs .number ≡ 0 → releasing xs s base o owner ≡ judged
   unfolding releasing
-  release-judged ok = after-accepted refusedMove (reading xs) (releaseRules (reading xs) (length xs) s base) ok
+  release-judged ok = after-accepted refusedMove (reading xs) (releaseRules (reading xs) (length xs) s base o owner) ok
 
   -- an accepted release sets and moves
-  pub release-changed : releasing xs s base .number ≡ 0 → releasedImage xs s base ≡ twoSteps xs s base
+  pub release-changed : releasing xs s base o owner .number ≡ 0 → releasedImage xs s base o owner ≡ twoSteps xs s base
   unfolding releasedImage
-  release-changed e = changed-so (releasing xs s base .number) (twoSteps xs s base) xs e
+  release-changed e = changed-so (releasing xs s base o owner .number) (twoSteps xs s base) xs e
 
   -- it is one of a sheet that fits, to a legal base
-  pub release-shows : releasing xs s base .number ≡ 0 → Releasable xs s base
+  pub release-shows : releasing xs s base o owner .number ≡ 0 → Releasable xs s base o owner
   release-shows e =
       elim (ℕ-discrete (reading xs .number) 0) [
         | no h ↦ absurd (h (sym (ap (λ (m : Moved). m .number) (release-unread h)) ∙ e))
         | yes ok ↦
             let v : judged .number ≡ 0 = sym (ap (λ (m : Moved). m .number) (release-judged ok)) ∙ e in
-            let (sound, names, legal, is) = judged-shows (reading xs) (length xs) s base v in
-            (record { read = ok; sound = sound; names = names }, legal)
+            let (sound, names, good, own, legal) = judged-shows (reading xs) (length xs) s base o owner v in
+            record { fits = record { read = ok; sound = sound; names = names }; good = good; own = own; legal = legal }
       ]
 
   -- and each of these is accepted
-  pub release-accepted : Releasable xs s base → releasing xs s base ≡ acceptedMove (reading xs) base
-  unfolding releaseRules
-  release-accepted (fits, legal) =
+  pub release-accepted : Releasable xs s base o owner → releasing xs s base o owner ≡ acceptedMove (reading xs) base
+  unfolding releaseRules nameRules
+  release-accepted h =
+      let fits = h .fits in
       release-judged (fits .read)
-      ∙ run-passed refusedMove (releaseRules (reading xs) (length xs) s base) (acceptedMove (reading xs) base)
-      ((fits .sound .contents, fits .sound .bodies), (fits .names, (fits .sound .fields, (legal, refl))))
+      ∙ run-passed refusedMove (releaseRules (reading xs) (length xs) s base o owner) (acceptedMove (reading xs) base)
+      ((fits .sound .contents, fits .sound .bodies), (h .good, (fits .names, (fits .sound .fields, (h .own, (h .legal, refl))))))
 
-  pub release-goes : Releasable xs s base → releasing xs s base .number ≡ 0
+  pub release-goes : Releasable xs s base o owner → releasing xs s base o owner .number ≡ 0
   release-goes h = ap (λ (m : Moved). m .number) (release-accepted h)

@@ -1,20 +1,27 @@
-// Document 02, #105: one call to release.
+// Document 02, #105 and #106: one call to release, by one owner.
 use image::Reading;
 use moving::Moved;
 ghost use mathlib.Core.Path.{_≡_};
 ghost use Prim.Native.Nat.{_^_, _≤_};
+ghost use Rattle.facts.specs.Fact.{Holds};
 ghost use Rattle.facts.specs.Rules.{run};
 ghost use Rattle.moving.specs.Moving.{refusedMove};
-ghost use Rattle.release.specs.Release.{releaseRules, Releases};
+ghost use Rattle.sheet.specs.Sheet.{sheetFits};
+ghost use Rattle.owners.specs.Owners.{listFits};
+ghost use Rattle.release.specs.Release.{nameRules, releaseRules, Releases};
 
-// Rules 15 to 18 for an image of `size` bytes that reads so: the sheet and the base are judged whole.
-fn judge(r: Reading, size: usize, sheet: &[u8], base: u64) -> Moved
-    requires { ⌜ r .base ≤ 2 ^ 32 ⌝ }
-    ensures { λ m. ⌜ m ≡ run refusedMove (releaseRules r size (now (sheet .entry)) base) ⌝ }
+// Rules 16, 17, 24 and 18, where 15 and 23 are passed.
+fn judge_names(
+    r: Reading,
+    size: usize,
+    sheet: &[u8],
+    base: u64,
+    owners: &[u8],
+    owner: usize,
+) -> Moved
+    requires { ⌜ (r .base ≤ 2 ^ 32) × Holds (sheetFits (now sheet)) × Holds (listFits (now owners) (r .z)) ⌝ }
+    ensures { λ m. ⌜ m ≡ run refusedMove (nameRules r size (now (sheet .entry)) base (now (owners .entry)) owner) ⌝ }
 {
-    if !sheet::sheet_fits(sheet) {
-        return moving::refused(15, 0);
-    }
     let k = r.identity;
     if !sheet::names(sheet, k) {
         return moving::refused(16, 0);
@@ -22,21 +29,38 @@ fn judge(r: Reading, size: usize, sheet: &[u8], base: u64) -> Moved
     if !sheet::fields_fit(sheet, r.z) {
         return moving::refused(17, 0);
     }
+    if !owners::fields_owned(sheet, owners, owner) {
+        return moving::refused(24, 0);
+    }
     if !header::legal(base, size) {
         return moving::refused(18, 0);
     }
     moving::accepted(r, base)
 }
 
-// Sets the bytes of a sheet in an image and moves it to a base, whatever the three are, or refuses and changes nothing.
-pub fn release(image: &mut [u8], sheet: &[u8], base: u64) -> Moved
-    ensures { λ m. ⌜ Releases (now (image .entry)) (now (sheet .entry)) base m (now (image .exit)) ⌝ }
+// 15 and 23 before them, for an image of `size` bytes that reads so: sheet, list, owner and base are judged whole.
+fn judge(r: Reading, size: usize, sheet: &[u8], base: u64, owners: &[u8], owner: usize) -> Moved
+    requires { ⌜ r .base ≤ 2 ^ 32 ⌝ }
+    ensures { λ m. ⌜ m ≡ run refusedMove (releaseRules r size (now (sheet .entry)) base (now (owners .entry)) owner) ⌝ }
+{
+    if !sheet::sheet_fits(sheet) {
+        return moving::refused(15, 0);
+    }
+    if !owners::owners_fit(owners, owner, r.z) {
+        return moving::refused(23, 0);
+    }
+    judge_names(r, size, sheet, base, owners, owner)
+}
+
+// Sets the bytes of an owner's sheet in an image and moves it to a base, whatever all of these are, or refuses and changes nothing.
+pub fn release(image: &mut [u8], sheet: &[u8], base: u64, owners: &[u8], owner: u64) -> Moved
+    ensures { λ m. ⌜ Releases (now (image .entry)) (now (sheet .entry)) base (now (owners .entry)) owner m (now (image .exit)) ⌝ }
 {
     let r = image::read(image);
     if r.number != 0 {
         return moving::refused(r.number, r.index);
     }
-    let v = judge(r, image.len(), sheet, base);
+    let v = judge(r, image.len(), sheet, base, owners, owner as usize);
     if v.number != 0 {
         return v;
     }

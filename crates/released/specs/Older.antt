@@ -18,7 +18,8 @@ use Rattle.image.specs.Guarantee.{guaranteed}
 use Rattle.moving.specs.declared.Moved.{Moved}
 use Rattle.moving.specs.Moving.{refusedMove, acceptedMove}
 use Rattle.sheet.specs.Sheet.{sheetIdentity, count, contentsFit, bodiesFit, sheetFits, sameIdentity, fieldFits}
-use Rattle.release.specs.Release.{releaseRules, releasing}
+use Rattle.owners.specs.Owners.{ownersFit, fieldsOwned}
+use Rattle.release.specs.Release.{nameRules, releaseRules, releasing}
 use Rattle.release.specs.ReleaseLaws.{release-judged}
 
 -- bytes 14 and 15 are zero
@@ -33,13 +34,15 @@ olderContents s = 16 ≤? length s and length s ≤? 65535 and count s ≤? 256 
 abbrev pub olderSame : Identity → Identity → Fact
 olderSame a b = a .image ≡? b .image and a .revision ≡? b .revision
 
-abbrev pub olderRules : Reading → ℕ → List ℕ → ℕ → Rules Moved
-olderRules r size s base =
+abbrev pub olderRules : Reading → ℕ → List ℕ → ℕ → List ℕ → ℕ → Rules Moved
+olderRules r size s base o owner =
     rule 15 (olderContents s and bodiesFit s)
+    (rule 23 (ownersFit o owner (r .z))
     (rule 16 (olderSame (sheetIdentity s) (r .identity))
     (rule 17 (every (count s) (fieldFits s (r .z)))
+    (rule 24 (fieldsOwned s o owner)
     (rule 18 (legalBase size base)
-    (answer (acceptedMove r base)))))
+    (answer (acceptedMove r base)))))))
 
 -- a sheet that passed 15 before passes it now
 pub older-contents : (s : List ℕ) → Holds (olderContents s) → Holds (contentsFit s)
@@ -51,12 +54,13 @@ unfolding identityAt
 below-six xs ok below = ap (λ (i : Identity). i .extended) (guaranteed xs ok .identity-is) ∙ extended-none xs (reading xs .H) below
 
 -- an older sheet is answered as before where the image's extended number is 0
-pub older-as-before : (xs s : List ℕ) (base : ℕ) → reading xs .number ≡ 0 → Older s → reading xs .identity .extended ≡ 0
-    → releasing xs s base ≡ run refusedMove (olderRules (reading xs) (length xs) s base)
-unfolding run releaseRules
-older-as-before xs s base ok old none =
+pub older-as-before : (xs s : List ℕ) (base : ℕ) (o : List ℕ) (owner : ℕ) → reading xs .number ≡ 0 → Older s
+    → reading xs .identity .extended ≡ 0
+    → releasing xs s base o owner ≡ run refusedMove (olderRules (reading xs) (length xs) s base o owner)
+unfolding run releaseRules nameRules
+older-as-before xs s base o owner ok old none =
     let i = reading xs .identity in
-    release-judged xs s base ok
+    release-judged xs s base o owner ok
     ∙ rw (
       same-test (sheetFits s) (olderContents s and bodiesFit s)
           (λ h. ((h .0 .0, (h .0 .1 .0, (h .0 .1 .1 .0, (old, h .0 .1 .1 .1)))), h .1)) (λ h. (older-contents s (h .0), h .1)),
@@ -64,11 +68,16 @@ older-as-before xs s base ok old none =
           (λ h. (h .0, (h .1, old ∙ sym none))),
     )
 
--- and refused with 16, once it passes 15, where it is another
-pub older-refused : (xs s : List ℕ) (base : ℕ) → reading xs .number ≡ 0 → Older s → Holds (sheetFits s)
+-- and refused with 16, once it passes 15 and the list is good, where it is another
+pub older-refused : (xs s : List ℕ) (base : ℕ) (o : List ℕ) (owner : ℕ) → reading xs .number ≡ 0 → Older s → Holds (sheetFits s)
+    → Holds (ownersFit o owner (reading xs .z))
     → (reading xs .identity .extended ≡ 0 → ⊥)
-    → releasing xs s base ≡ refusedMove 16 0
-unfolding run releaseRules
-older-refused xs s base ok old fits other =
-    release-judged xs s base ok
-    ∙ rw (passes (sheetFits s) fits, fails (sameIdentity (sheetIdentity s) (reading xs .identity)) (λ h. other (sym (h .1 .1) ∙ old)))
+    → releasing xs s base o owner ≡ refusedMove 16 0
+unfolding run releaseRules nameRules
+older-refused xs s base o owner ok old fits good other =
+    release-judged xs s base o owner ok
+    ∙ rw (
+      passes (sheetFits s) fits,
+      passes (ownersFit o owner (reading xs .z)) good,
+      fails (sameIdentity (sheetIdentity s) (reading xs .identity)) (λ h. other (sym (h .1 .1) ∙ old)),
+    )

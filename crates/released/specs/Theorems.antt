@@ -28,23 +28,24 @@ use Rattle.lookup.specs.SettingLaws.{setting-accepted}
 use Rattle.steps.specs.MoveStep.{unmoved-byte, moved-number, length-after, bytes-after, moved-reads, moved-on, moved-nowhere}
 use Rattle.steps.specs.SetStep.{Within, unset-byte, set-byte, length-after-set, bytes-after-set, set-reads, read-after, set-empty, fits-alike}
 use Rattle.steps.specs.TwoSteps.{fits-moved, commute, word-kept, words-stay}
-use Rattle.release.specs.Release.{releaseRules, releasing, twoSteps, releasedImage}
-use Rattle.release.specs.ReleaseLaws.{release-changed, release-shows, release-goes}
+use Rattle.release.specs.Release.{nameRules, releaseRules, releasing, twoSteps, releasedImage}
+use Rattle.release.specs.ReleaseLaws.{Releasable, release-changed, release-shows, release-goes}
 
 -- ---- an accepted release, as two steps
 
-module _ (xs s : List ℕ) (base : ℕ) (ok : releasing xs s base .number ≡ 0) where
+module _ (xs s : List ℕ) (base : ℕ) (o : List ℕ) (owner : ℕ) (ok : releasing xs s base o owner .number ≡ 0) where
   pub released-fits : Fits xs s
-  released-fits = release-shows xs s base ok .0
+  released-fits = release-shows xs s base o owner ok .fits
 
   pub released-legal : Holds (legalBase (length xs) base)
-  released-legal = release-shows xs s base ok .1
+  released-legal = release-shows xs s base o owner ok .legal
 
   -- the sheet's bytes are set, then the image is moved
-  pub set-then-moved : releasedImage xs s base ≡ movedImage (setImage xs s) base
+  pub set-then-moved : releasedImage xs s base o owner ≡ movedImage (setImage xs s) base
   unfolding twoSteps movedImage setImage
   set-then-moved =
-      release-changed xs s base ok ∙ ap (λ (r : Reading). moveTo (setBy xs (reading xs) s) r base) (sym (set-reads xs s released-fits))
+      release-changed xs s base o owner ok
+      ∙ ap (λ (r : Reading). moveTo (setBy xs (reading xs) s) r base) (sym (set-reads xs s released-fits))
 
   legal-set : Holds (legalBase (length (setImage xs s)) base)
   legal-set = rw (length-after-set xs s released-fits) released-legal
@@ -54,35 +55,35 @@ module _ (xs s : List ℕ) (base : ℕ) (ok : releasing xs s base .number ≡ 0)
     bytes-set = bytes-after-set xs s released-fits bx bs
 
     -- the image is moved, then the sheet's bytes are set
-    pub moved-then-set : releasedImage xs s base ≡ setImage (movedImage xs base) s
+    pub moved-then-set : releasedImage xs s base o owner ≡ setImage (movedImage xs base) s
     moved-then-set = set-then-moved ∙ sym (commute xs s base bx bs released-fits released-legal)
 
     -- the image afterwards reads as before but for the base, which is the new one
-    pub released-reads : reading (releasedImage xs s base) ≡ rebased (reading xs) base
+    pub released-reads : reading (releasedImage xs s base o owner) ≡ rebased (reading xs) base
     released-reads =
         ap (λ (l : List ℕ). reading l) set-then-moved ∙ moved-reads (setImage xs s) bytes-set (read-after xs s released-fits) base legal-set
         ∙ ap (λ (r : Reading). rebased r base) (set-reads xs s released-fits)
 
-    pub length-released : length (releasedImage xs s base) ≡ length xs
+    pub length-released : length (releasedImage xs s base o owner) ≡ length xs
     length-released =
         ap (λ (l : List ℕ). length l) set-then-moved ∙ length-after (setImage xs s) bytes-set (read-after xs s released-fits) base legal-set
         ∙ length-after-set xs s released-fits
 
-    pub bytes-released : Bytes (releasedImage xs s base)
+    pub bytes-released : Bytes (releasedImage xs s base o owner)
     bytes-released = rw set-then-moved (bytes-after (setImage xs s) bytes-set (read-after xs s released-fits) base legal-set)
 
     -- ---- which byte is whose
 
     -- a byte of an entry is its body's
     pub released-entry : (i j : ℕ) → i < count s → j < size s i
-        → getD (releasedImage xs s base) (reading xs .c + offset s i + j) 0 ≡ getD s (bodyAt s i + j) 0
+        → getD (releasedImage xs s base o owner) (reading xs .c + offset s i + j) 0 ≡ getD s (bodyAt s i + j) 0
     released-entry i j hi hj =
         let c = ap (λ (r : Reading). r .c) (moved-reads xs bx (released-fits .read) base released-legal) in
         rw moved-then-set (rw c at (set-byte (movedImage xs base) s (fits-moved xs s base bx released-fits released-legal) i j hi hj))
 
     -- each word of the move holds old plus difference modulo 2^32
     pub released-word : (j : ℕ) → j < suc (reading xs .n)
-        → le 4 (releasedImage xs s base) (wordsAt xs (reading xs) j) ≡
+        → le 4 (releasedImage xs s base o owner) (wordsAt xs (reading xs) j) ≡
         (le 4 xs (wordsAt xs (reading xs) j) + difference (reading xs .base) base 4) % 2 ^ 32
     released-word j h =
         let ys = setImage xs s in
@@ -96,22 +97,23 @@ module _ (xs s : List ℕ) (base : ℕ) (ok : releasing xs s base .number ≡ 0)
 
     -- any other byte is what it was
     pub released-other : (k : ℕ) → Beside (fieldsOf (reading xs) s) (count s) k → Beside (wordsOf xs (reading xs)) (suc (reading xs .n)) k
-        → getD (releasedImage xs s base) k 0 ≡ getD xs k 0
+        → getD (releasedImage xs s base o owner) k 0 ≡ getD xs k 0
     released-other k fields words =
         let ys = setImage xs s in
         let r = reading xs in
         let words′ : Beside (wordsOf ys r) (suc (r .n)) k = λ j h. rw (words-stay xs s released-fits j h) (words j h) in
-        rw set-then-moved (unmoved-byte ys bytes-set (read-after xs s released-fits) base legal-set k (rw (set-reads xs s released-fits) words′))
+        rw set-then-moved (unmoved-byte ys bytes-set (read-after xs s released-fits) base legal-set k
+        (rw (set-reads xs s released-fits) words′))
         ∙ unset-byte xs s released-fits k fields
 
     -- ---- the sheet alone, the move alone
 
     -- an empty sheet only moves
-    pub empty-moves : count s ≡ 0 → releasedImage xs s base ≡ movedImage xs base
+    pub empty-moves : count s ≡ 0 → releasedImage xs s base o owner ≡ movedImage xs base
     empty-moves none = set-then-moved ∙ ap (λ (l : List ℕ). movedImage l base) (set-empty xs s released-fits none)
 
     -- the present base only sets
-    pub present-sets : base ≡ reading xs .base → releasedImage xs s base ≡ setImage xs s
+    pub present-sets : base ≡ reading xs .base → releasedImage xs s base o owner ≡ setImage xs s
     present-sets e =
         let ys = setImage xs s in
         let same : base ≡ reading ys .base = e ∙ sym (ap (λ (r : Reading). r .base) (set-reads xs s released-fits)) in
@@ -119,15 +121,16 @@ module _ (xs s : List ℕ) (base : ℕ) (ok : releasing xs s base .number ≡ 0)
 
     -- a setting looked up afterwards that the sheet sets is the sheet's body
     pub setting-released : (i : ℕ) → i < count s
-        → settingPart (releasedImage xs s base) (offset s i) (size s i) ≡ take (size s i) (drop (bodyAt s i) s)
+        → settingPart (releasedImage xs s base o owner) (offset s i) (size s i) ≡ take (size s i) (drop (bodyAt s i) s)
     setting-released i h =
-        let ys = releasedImage xs s base in
+        let ys = releasedImage xs s base o owner in
         let r = reading xs in
         let g = guaranteed xs (released-fits .read) in
         let f = released-fits .sound .fields i h in
         let b = body-within s (r .z) (released-fits .sound) i h in
         let read : reading ys .number ≡ 0 = ap (λ (q : Reading). q .number) released-reads ∙ released-fits .read in
-        let inside : Holds (settingFits (offset s i) (size s i) (reading ys .z)) = rw released-reads (released-fits .sound .bodies .0 i h .0, f) in
+        let inside : Holds (settingFits (offset s i) (size s i) (reading ys .z)) =
+        rw released-reads (released-fits .sound .bodies .0 i h .0, f) in
         let room : r .c + offset s i + size s i ≤ length ys = rw length-released (omega (arith, g)) in
         setting-accepted ys (offset s i) (size s i) read inside .1
         ∙ rw released-reads (ext-getD 0 (take (size s i) (drop (r .c + offset s i) ys)) (take (size s i) (drop (bodyAt s i) s))
@@ -149,49 +152,68 @@ entry-beside xs s fits k (i, h, low, high) =
 -- ---- there and back
 
 -- an image that was released takes a sheet that it took before, to any base that is legal for it
-pub goes-on : (xs s t : List ℕ) (base next : ℕ) → Bytes xs → Bytes s → releasing xs s base .number ≡ 0 → Fits xs t
-    → Holds (legalBase (length xs) next)
-    → releasing (releasedImage xs s base) t next .number ≡ 0
-goes-on xs s t base next bx bs ok fits legal =
-    let ys = releasedImage xs s base in
-    let reads = released-reads xs s base ok bx bs in
+pub goes-on : (xs s t : List ℕ) (base next : ℕ) (o p : List ℕ) (owner other : ℕ) → Bytes xs → Bytes s
+    → releasing xs s base o owner .number ≡ 0 → Releasable xs t next p other
+    → releasing (releasedImage xs s base o owner) t next p other .number ≡ 0
+goes-on xs s t base next o p owner other bx bs ok takes =
+    let ys = releasedImage xs s base o owner in
+    let reads = released-reads xs s base o owner ok bx bs in
+    let fits = takes .fits in
     let read : reading ys .number ≡ 0 = ap (λ (r : Reading). r .number) reads ∙ fits .read in
-    release-goes ys t next (
-      fits-alike xs t fits ys read (ap (λ (r : Reading). r .identity) reads) (ap (λ (r : Reading). r .z) reads),
-      rw (length-released xs s base ok bx bs) legal,
-    )
+    let z : reading ys .z ≡ reading xs .z = ap (λ (r : Reading). r .z) reads in
+    release-goes ys t next p other
+    (record {
+      fits = fits-alike xs t fits ys read (ap (λ (r : Reading). r .identity) reads) z;
+      good = rw z (takes .good);
+      own = takes .own;
+      legal = rw (length-released xs s base o owner ok bx bs) (takes .legal);
+    })
 
 -- an empty sheet takes the image to a base, and back
-pub there-and-back : (xs s : List ℕ) (base : ℕ) → Bytes xs → Bytes s → count s ≡ 0 → releasing xs s base .number ≡ 0
-    → (releasing (releasedImage xs s base) s (reading xs .base) .number ≡ 0) ×
-    (releasedImage (releasedImage xs s base) s (reading xs .base) ≡ xs)
-there-and-back xs s base bx bs none ok =
-    let ys = releasedImage xs s base in
-    let read = released-fits xs s base ok .read in
+pub there-and-back : (xs s : List ℕ) (base : ℕ) (o : List ℕ) (owner : ℕ) → Bytes xs → Bytes s → count s ≡ 0
+    → releasing xs s base o owner .number ≡ 0
+    → (releasing (releasedImage xs s base o owner) s (reading xs .base) o owner .number ≡ 0) ×
+    (releasedImage (releasedImage xs s base o owner) s (reading xs .base) o owner ≡ xs)
+there-and-back xs s base o owner bx bs none ok =
+    let ys = releasedImage xs s base o owner in
+    let shown = release-shows xs s base o owner ok in
+    let read = shown .fits .read in
     let home = guaranteed xs read .legal in
-    let back = goes-on xs s s base (reading xs .base) bx bs ok (released-fits xs s base ok) home in (
+    let back =
+    goes-on xs s s base (reading xs .base) o o owner owner bx bs ok
+    (record { fits = shown .fits; good = shown .good; own = shown .own; legal = home }) in (
       back,
-      empty-moves ys s (reading xs .base) back (bytes-released xs s base ok bx bs) bs none
-          ∙ ap (λ (l : List ℕ). movedImage l (reading xs .base)) (empty-moves xs s base ok bx bs none)
-          ∙ moved-on xs bx read base (released-legal xs s base ok) (reading xs .base) home
+      empty-moves ys s (reading xs .base) o owner back (bytes-released xs s base o owner ok bx bs) bs none
+          ∙ ap (λ (l : List ℕ). movedImage l (reading xs .base)) (empty-moves xs s base o owner ok bx bs none)
+          ∙ moved-on xs bx read base (shown .legal) (reading xs .base) home
           ∙ moved-nowhere xs bx read,
     )
 
 -- ---- which numbers and indices a release answers
 
--- its own refusals are 15 to 18
+-- its own refusals are 15 to 18, 23 and 24
 abbrev pub OwnRelease : ℕ → Type 0
-OwnRelease k = (15 ≤ k) × (k ≤ 18)
+OwnRelease k = ((15 ≤ k) × (k ≤ 18)) ⊎ ((23 ≤ k) × (k ≤ 24))
 
-pub release-numbered : (xs s : List ℕ) (base : ℕ) → Numbered xs OwnRelease (releasing xs s base .number) (releasing xs s base .index)
-unfolding releasing releaseRules
-release-numbered xs s base =
+pub release-numbered : (xs s : List ℕ) (base : ℕ) (o : List ℕ) (owner : ℕ)
+    → Numbered xs OwnRelease (releasing xs s base o owner .number) (releasing xs s base o owner .index)
+unfolding releasing releaseRules nameRules
+release-numbered xs s base o owner =
     let own = own-number xs OwnRelease in
     after-every refusedMove (λ (m : Moved). Numbered xs OwnRelease (m .number) (m .index)) xs _ (λ h. numbered-own xs OwnRelease)
     (λ ok. (
-      (λ h. own 15 (omega arith, omega arith)),
+      (λ h. own 15 (inl (omega arith, omega arith))),
       λ h. (
-        (λ h. own 16 (omega arith, omega arith)),
-        λ h. ((λ h. own 17 (omega arith, omega arith)), λ h. ((λ h. own 18 (omega arith, omega arith)), λ h. own-zero xs OwnRelease)),
+        (λ h. own 23 (inr (omega arith, omega arith))),
+        λ h. (
+          (λ h. own 16 (inl (omega arith, omega arith))),
+          λ h. (
+            (λ h. own 17 (inl (omega arith, omega arith))),
+            λ h. (
+              (λ h. own 24 (inr (omega arith, omega arith))),
+              λ h. ((λ h. own 18 (inl (omega arith, omega arith))), λ h. own-zero xs OwnRelease),
+            ),
+          ),
+        ),
       ),
     ))

@@ -25,9 +25,9 @@ use Rattle.moving.specs.Moves.{difference}
 use Rattle.moving.specs.Moving.{wordsAt, refusedMove, acceptedMove}
 use Rattle.sheet.specs.Small.{sample}
 use Rattle.sheet.specs.Sheet.{Sound, sheetIdentity, count, offset, size, bodyAt, contentsFit, bodiesFit, sheetFits, sameIdentity, fieldFits}
-use Rattle.sheet.specs.Set.{Fits}
-use Rattle.release.specs.Release.{releaseRules, releasing, releasedImage}
-use Rattle.release.specs.ReleaseLaws.{release-judged, release-accepted, release-goes}
+use Rattle.owners.specs.Owners.{ownersFit, fieldsOwned}
+use Rattle.release.specs.Release.{nameRules, releaseRules, releasing, releasedImage}
+use Rattle.release.specs.ReleaseLaws.{Releasable, release-judged, release-accepted, release-goes}
 use Rattle.released.specs.Theorems.{released-entry, released-word}
 
 pub data Row : Type 0 where
@@ -43,8 +43,11 @@ pub data Row : Type 0 where
   moves : (old new difference down : ℕ) → Row
   -- such a release makes of this word that one
   makes : (old new word moved : ℕ) → Row
-  -- for an image of the sheet's identity and revision with at least so many region bytes, the sheet sets two region bytes to these
-  sets : (sheet : List ℕ) (z at first second : ℕ) → Row
+  -- for an image of the sheet's identity and revision with at least so many region bytes, the sheet by this owner of the list sets two
+  -- region bytes to these
+  sets : (sheet list : List ℕ) (owner z at first second : ℕ) → Row
+  -- by this owner it is refused with 24
+  foreign : (sheet list : List ℕ) (owner z : ℕ) → Row
   -- the sheet is refused with 15
   unsound : (sheet : List ℕ) → Row
 
@@ -73,7 +76,7 @@ check (legal size base) = legalBase size base
 check (illegal size base) = deny (legalBase size base)
 check (moves old new by down) = difference old new 4 ≡? by and sign (distanceOf old new) ≡? 1 and natAbs (distanceOf old new) ≡? down
 check (makes old new word moved) = (word + difference old new 4) % 2 ^ 32 ≡? moved
-check (sets s z at first second) =
+check (sets s l w z at first second) =
     contentsFit s
     and bodiesFit s
     and every (count s) (fieldFits s z)
@@ -83,6 +86,9 @@ check (sets s z at first second) =
     and getD s (bodyAt s 0) 0 ≡? first
     and getD s (bodyAt s 0 + 1) 0 ≡? second
     and every (length s) (λ i. getD s i 0 ≤? 255)
+    and ownersFit l w z
+    and fieldsOwned s l w
+check (foreign s l w z) = sheetFits s and every (count s) (fieldFits s z) and ownersFit l w z and deny (fieldsOwned s l w)
 check (unsound s) = contentsFit s and deny (bodiesFit s)
 
 -- what a row says of the rules
@@ -93,19 +99,28 @@ Claim (legal size base) = Holds (check (legal size base))
 Claim (illegal size base) = Holds (check (illegal size base))
 Claim (moves old new by down) =
     (difference old new 4 ≡ by)
-    × ((xs s : List ℕ) → Fits xs s → reading xs .base ≡ old → Holds (legalBase (length xs) new)
-    → releasing xs s new ≡ record { number = 0; index = 0; distance = negsuc (down - 1) })
+    × ((xs s o : List ℕ) (owner : ℕ) → Releasable xs s new o owner → reading xs .base ≡ old
+    → releasing xs s new o owner ≡ record { number = 0; index = 0; distance = negsuc (down - 1) })
 Claim (makes old new word moved) =
-    (xs s : List ℕ) → Bytes xs → Bytes s → Fits xs s → reading xs .base ≡ old → Holds (legalBase (length xs) new)
+    (xs s o : List ℕ) (owner : ℕ) → Bytes xs → Bytes s → Releasable xs s new o owner → reading xs .base ≡ old
     → (j : ℕ) → j < suc (reading xs .n) → le 4 xs (wordsAt xs (reading xs) j) ≡ word
-    → le 4 (releasedImage xs s new) (wordsAt xs (reading xs) j) ≡ moved
-Claim (sets s z at first second) =
+    → le 4 (releasedImage xs s new o owner) (wordsAt xs (reading xs) j) ≡ moved
+Claim (sets s l w z at first second) =
     (xs : List ℕ) (base : ℕ) → Bytes xs → reading xs .number ≡ 0 → Holds (sameIdentity (sheetIdentity s) (reading xs .identity))
     → z ≤ reading xs .z → Holds (legalBase (length xs) base)
-    → (releasing xs s base ≡ acceptedMove (reading xs) base)
-    × (getD (releasedImage xs s base) (reading xs .c + at) 0 ≡ first)
-    × (getD (releasedImage xs s base) (reading xs .c + at + 1) 0 ≡ second)
-Claim (unsound s) = (xs : List ℕ) (base : ℕ) → reading xs .number ≡ 0 → releasing xs s base ≡ refusedMove 15 0
+    → (releasing xs s base l w ≡ acceptedMove (reading xs) base)
+    × (getD (releasedImage xs s base l w) (reading xs .c + at) 0 ≡ first)
+    × (getD (releasedImage xs s base l w) (reading xs .c + at + 1) 0 ≡ second)
+Claim (foreign s l w z) =
+    (xs : List ℕ) (base : ℕ) → reading xs .number ≡ 0 → Holds (sameIdentity (sheetIdentity s) (reading xs .identity)) → z ≤ reading xs .z
+    → releasing xs s base l w ≡ refusedMove 24 0
+Claim (unsound s) =
+    (xs : List ℕ) (base : ℕ) (l : List ℕ) (w : ℕ) → reading xs .number ≡ 0 → releasing xs s base l w ≡ refusedMove 15 0
+
+-- a list that is good for a region is so for a longer one
+wider : (l : List ℕ) (w z more : ℕ) → z ≤ more → Holds (ownersFit l w z) → Holds (ownersFit l w more)
+wider l w z more h (good, known) =
+    ((good .0, (good .1 .0, λ i k. let f = good .1 .1 i k in (f .0, (f .1 .0, (omega (arith, f .1 .1 .0), f .1 .1 .1))))), known)
 
 -- a list of bytes
 bytes-so : (s : List ℕ) → Holds (every (length s) (λ i. getD s i 0 ≤? 255)) → Bytes s
@@ -120,40 +135,61 @@ bytes-so s h k =
 
 -- a row that computes is right
 right : (row : Row) → Holds (check row) → Claim row
-unfolding run releaseRules
+unfolding run releaseRules nameRules
 right (points size entry place) h = h
 right (refuses size entry number) h = h
 right (legal size base) h = h
 right (illegal size base) h = h
 right (moves old new by down) (by-is, (low, far)) = (
   by-is,
-  λ xs s fits base legal.
-      release-accepted xs s new (fits, legal)
+  λ xs s o owner goes base.
+      release-accepted xs s new o owner goes
       ∙ ap (λ (b : ℕ). acceptedMove (rebased (refusal 0 0) b) new) base
       ∙ ap (λ (z : ℤ). record { number = 0; index = 0; distance = z })
       (below (distanceOf old new) low ∙ ap (λ (k : ℕ). negsuc (k - 1)) far),
 )
-right (makes old new word moved) h = λ xs s bx bs fits base legal j n is.
-    released-word xs s new (release-goes xs s new (fits, legal)) bx bs j n
+right (makes old new word moved) h = λ xs s o owner bx bs goes base j n is.
+    released-word xs s new o owner (release-goes xs s new o owner goes) bx bs j n
     ∙ ap (λ (v : ℕ). (v + difference (reading xs .base) new 4) % 2 ^ 32) is
     ∙ ap (λ (o : ℕ). (word + difference o new 4) % 2 ^ 32) base
     ∙ h
-right (sets s z at first second) (contents, (bodies, (fields, (one, (place, (two, (a, (b, bytes)))))))) = λ xs base bx ok names room legal.
+right (sets s l w z at first second) (contents, (bodies, (fields, (one, (place, (two, (a, (b, (bytes, (good, own)))))))))) =
+    λ xs base bx ok names room legal.
     let sound : Sound s (reading xs .z) =
     record { contents = contents; bodies = bodies; fields = λ i h. (fields i h .0, omega (arith, fields i h .1)) } in
-    let fits : Fits xs s = record { read = ok; sound = sound; names = names } in
-    let goes = release-goes xs s base (fits, legal) in
-    let byte = released-entry xs s base goes bx (bytes-so s bytes) 0 in
+    let goes : Releasable xs s base l w =
+    record {
+      fits = record { read = ok; sound = sound; names = names };
+      good = wider l w z (reading xs .z) room good;
+      own = own;
+      legal = legal;
+    } in
+    let byte = released-entry xs s base l w (release-goes xs s base l w goes) bx (bytes-so s bytes) 0 in
     let e : reading xs .c + offset s 0 + 0 ≡ reading xs .c + offset s 0 = omega arith in
     let f : bodyAt s 0 + 0 ≡ bodyAt s 0 = omega arith in (
-      release-accepted xs s base (fits, legal),
+      release-accepted xs s base l w goes,
       rw (← place) (rw (e, f) at (byte 0 one (omega arith)) ∙ a),
       rw (← place) (byte 1 one (omega arith) ∙ b),
     )
-right (unsound s) (contents, none) = λ xs base ok. release-judged xs s base ok ∙ refused (reading xs) (length xs) base
+right (foreign s l w z) (fits, (fields, (good, none))) = λ xs base ok names room.
+    release-judged xs s base l w ok ∙ refused (reading xs) (length xs) base names (wider l w z (reading xs .z) room good)
+    (λ i h. (fields i h .0, omega (arith, fields i h .1)))
   where
-    refused : (r : Reading) (size base : ℕ) → run refusedMove (releaseRules r size s base) ≡ refusedMove 15 0
-    refused r size base = rw (fails (sheetFits s) (λ h. none (h .1)))
+    refused : (r : Reading) (size base : ℕ) → Holds (sameIdentity (sheetIdentity s) (r .identity)) → Holds (ownersFit l w (r .z))
+        → Holds (every (count s) (fieldFits s (r .z)))
+        → run refusedMove (releaseRules r size s base l w) ≡ refusedMove 24 0
+    refused r size base names good fields =
+        rw (
+          passes (sheetFits s) fits,
+          passes (ownersFit l w (r .z)) good,
+          passes (sameIdentity (sheetIdentity s) (r .identity)) names,
+          passes (every (count s) (fieldFits s (r .z))) fields,
+          fails (fieldsOwned s l w) none,
+        )
+right (unsound s) (contents, none) = λ xs base l w ok. release-judged xs s base l w ok ∙ refused (reading xs) (length xs) base l w
+  where
+    refused : (r : Reading) (size base : ℕ) (l : List ℕ) (w : ℕ) → run refusedMove (releaseRules r size s base l w) ≡ refusedMove 15 0
+    refused r size base l w = rw (fails (sheetFits s) (λ h. none (h .1)))
 
 -- every row of a list
 abbrev pub Each : List Row → Type 0
@@ -200,6 +236,10 @@ sheet =
     ∷ 0x00
     ∷ []
 
+-- region bytes 40 and 41 are owner 1's
+abbrev owners : List ℕ
+owners = 0x28 ∷ 0x00 ∷ 0x00 ∷ 0x00 ∷ 0x02 ∷ 0x00 ∷ 0x01 ∷ 0x00 ∷ []
+
 -- image size 524,288
 abbrev pub rows : List Row
 rows =
@@ -218,7 +258,8 @@ rows =
     ∷ moves 0xFFF80000 0x00100000 0x00180000 4293394432
     ∷ makes 0xFFF80000 0x00100000 0xFFF80040 0x00100040
     ∷ makes 0xFFF80000 0x00100000 0xFFFFFFFC 0x0017FFFC
-    ∷ sets sheet 42 40 0x01 0x00
+    ∷ sets sheet owners 1 42 40 0x01 0x00
+    ∷ foreign sheet owners 2 42
     ∷ unsound (take 25 sheet)
     ∷ []
 

@@ -18,7 +18,7 @@ pub struct Entry {
 }
 
 // Entry i of the sheet.
-fn entry_at(sheet: &[u8], i: usize) -> Entry
+pub fn entry_at(sheet: &[u8], i: usize) -> Entry
     requires { ⌜ (i < 256) × (16 + 8 * i + 8 ≤ length (now sheet)) ⌝ }
     ensures { λ r. ⌜ r ≡ entryAt (now (sheet .entry)) i ⌝ }
     ensures { λ r. ⌜ (r .offset < 4294967296) × (r .size < 65536) ⌝ }

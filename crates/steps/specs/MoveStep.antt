@@ -85,7 +85,8 @@ module _ (xs : List ℕ) (bytes : Bytes xs) (ok : reading xs .number ≡ 0) wher
         let small : base < 256 ^ 4 = omega (arith, guaranteed xs ok, legal) in
         ap (λ (s : Reading). moveTo ys s next) moved-reads
         ∙ moved-cong ys (wordsOf ys (rebased r base)) ws (difference base next) (difference base next) n
-        (λ j h. words-rebased ys r base j ∙ words-kept xs r (guaranteed xs ok) (difference (r .base) base) n j (omega arith) h) (λ j h. refl) (λ j h. refl)
+        (λ j h. words-rebased ys r base j ∙ words-kept xs r (guaranteed xs ok) (difference (r .base) base) n j (omega arith) h)
+        (λ j h. refl) (λ j h. refl)
         ∙ moved-twice xs ws (difference (r .base) base) (difference base next) (difference (r .base) next)
         (spread xs r (guaranteed xs ok)) bytes
         (λ j h. difference-sum 4 (r .base) base next old-small small)

@@ -9,7 +9,7 @@ use Rattle.pajurenda.proofs.pajurenda_release.Tie as tie
 
 returns : tie.Need-returns
 returns c =
-    let A = c .before .before .before .before .args .answer .now in
+    let A = c .before .before .before .before .before .args .answer .now in
     let h = c .if1 .taken in
     (sym (short 3 A _ _ h), (sym (short 3 A _ _ h), sym (short 3 A _ _ h)))
 
@@ -27,7 +27,7 @@ same-length-2 c = search needs
 
 returns-2 : tie.Need-returns-2
 returns-2 c =
-    let A = c .before .before .before .before .before .before .before .before .before .before .before .before .args .answer .now in
+    let A = c .before .before .before .before .before .before .before .before .before .before .before .before .before .args .answer .now in
     let h = c .before .before .before .before .before .before .before .before .if1 .left in
     let e = c .before .before .before .before .before .before .release .ensures .0 in
     (ap (λ (q : Moved). q .number) e ∙ sym (roomy 3 A _ _ h), (c .before .before .before .before .before .before .release .ensures .1 ∙ sym (roomy 3 A _ _ h), c .before .before .write-moved .ensures ∙ ap (λ (q : Moved). putAll 8 A 0 (moveFields q)) e ∙ sym (roomy 3 A _ _ h)))

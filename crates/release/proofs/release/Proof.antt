@@ -1,5 +1,5 @@
 use Rattle.release.specs.Release.{releaseRules, releasing, twoSteps}
-use Rattle.release.specs.ReleaseLaws.{Releasable, judged-shows, set-guaranteed, release-kept, release-unread, release-judged, release-changed, release-shows}
+use Rattle.release.specs.ReleaseLaws.{Releasable, set-guaranteed, release-kept, release-unread, release-judged, release-changed, release-shows}
 use Rattle.sheet.specs.Set.{setBy}
 use Rattle.moving.specs.Moving.{moveTo, refusedMove}
 use Rattle.moving.specs.declared.Moved.{Moved}
@@ -17,28 +17,28 @@ use Rattle.release.proofs.release.Statement.{statement}
 use Rattle.release.proofs.release.Tie as tie
 
 -- past the first check: the image reads
-reads : (c : tie.Else1) → reading (c .before .before .before .before .before .before .args .image .now) .number ≡ 0
+reads : (c : tie.Else1) → reading (c .before .before .before .before .before .before .before .args .image .now) .number ≡ 0
 reads c = rw (c .before .before .read .ensures) at (c .if1 .left)
 
 -- sheet and base are judged for the image that was read
 verdict : (c : tie.After-judge) →
-    let a = c .before .before .before .before .before .before .before .args in
+    let a = c .before .before .before .before .before .before .before .before .args in
     let xs = a .image .now in
-    c .judge .result ≡ run refusedMove (releaseRules (reading xs) (length xs) (a .sheet .now) (a .base))
+    c .judge .result ≡ run refusedMove (releaseRules (reading xs) (length xs) (a .sheet .now) (a .base) (a .owners .now) (a .owner))
 verdict c = rw (c .before .before .before .read .ensures) at (c .judge .ensures)
 
 -- so that is the answer
 answer : (c : tie.After-judge) →
-    let a = c .before .before .before .before .before .before .before .args in
-    c .judge .result ≡ releasing (a .image .now) (a .sheet .now) (a .base)
+    let a = c .before .before .before .before .before .before .before .before .args in
+    c .judge .result ≡ releasing (a .image .now) (a .sheet .now) (a .base) (a .owners .now) (a .owner)
 answer c =
-    let a = c .before .before .before .before .before .before .before .args in
-    verdict c ∙ sym (release-judged (a .image .now) (a .sheet .now) (a .base) (reads (c .before)))
+    let a = c .before .before .before .before .before .before .before .before .args in
+    verdict c ∙ sym (release-judged (a .image .now) (a .sheet .now) (a .base) (a .owners .now) (a .owner) (reads (c .before)))
 
 -- past both checks
 passed : (c : tie.Else2) →
-    let a = c .before .before .before .before .before .before .before .before .before .args in
-    releasing (a .image .now) (a .sheet .now) (a .base) .number ≡ 0
+    let a = c .before .before .before .before .before .before .before .before .before .before .args in
+    releasing (a .image .now) (a .sheet .now) (a .base) (a .owners .now) (a .owner) .number ≡ 0
 passed c = sym (ap (λ (m : Moved). m .number) (answer (c .before .before))) ∙ c .if2 .left
 
 read-requires : tie.Need-read-requires
@@ -53,40 +53,40 @@ same-length c = search needs
 returns : tie.Need-returns
 returns c =
     let read = c .before .before .before in
-    let a = read .before .before .before .before .args in
+    let a = read .before .before .before .before .before .args in
     let e = read .read .ensures in
     let unread = rw e at (c .before .if1 .taken) in
-    let is = release-unread (a .image .now) (a .sheet .now) (a .base) unread in (
+    let is = release-unread (a .image .now) (a .sheet .now) (a .base) (a .owners .now) (a .owner) unread in (
       rw (is, ← e) (c .refused .ensures),
-      sym (release-kept (a .image .now) (a .sheet .now) (a .base) (λ z. unread (sym (ap (λ (m : Moved). m .number) is) ∙ z))),
+      sym (release-kept (a .image .now) (a .sheet .now) (a .base) (a .owners .now) (a .owner) (λ z. unread (sym (ap (λ (m : Moved). m .number) is) ∙ z))),
     )
 
 judge-requires : tie.Need-judge-requires
 judge-requires c κs =
-    rw (c .before .before .read .ensures) (omega (arith, guaranteed (c .before .before .before .before .before .before .args .image .now) (reads c)))
+    rw (c .before .before .read .ensures) (omega (arith, guaranteed (c .before .before .before .before .before .before .before .args .image .now) (reads c)))
 
 same-length-2 : tie.Need-same-length-2
 same-length-2 c = search needs
 
 returns-2 : tie.Need-returns-2
 returns-2 c =
-    let a = c .before .before .before .before .before .before .before .before .before .args in
+    let a = c .before .before .before .before .before .before .before .before .before .before .args in
     let e = answer (c .before .before) in
-    (e, sym (release-kept (a .image .now) (a .sheet .now) (a .base) (rw e at (c .if2 .taken))))
+    (e, sym (release-kept (a .image .now) (a .sheet .now) (a .base) (a .owners .now) (a .owner) (rw e at (c .if2 .taken))))
 
 set-by-requires : tie.Need-set-by-requires
 set-by-requires c κs =
-    let a = c .before .before .before .before .before .before .before .before .before .before .args in
-    let fits = release-shows (a .image .now) (a .sheet .now) (a .base) (passed (c .before)) .0 in
+    let a = c .before .before .before .before .before .before .before .before .before .before .before .args in
+    let fits = release-shows (a .image .now) (a .sheet .now) (a .base) (a .owners .now) (a .owner) (passed (c .before)) .fits in
     rw (c .before .before .before .before .before .before .read .ensures) (guaranteed (a .image .now) (fits .read), fits .sound)
 
 move-to-requires : tie.Need-move-to-requires
 move-to-requires c κs =
     let set = c .before .before .before in
     let read = set .before .before .before .before .before .before .before in
-    let a = read .before .before .before .before .args in
-    let (fits, legal) = release-shows (a .image .now) (a .sheet .now) (a .base) (passed (set .before .before)) in
-    rw (set .set-by .ensures, read .read .ensures) (set-guaranteed (a .image .now) (a .sheet .now) fits, omega (arith, guaranteed (a .image .now) (fits .read), legal))
+    let a = read .before .before .before .before .before .args in
+    let shown = release-shows (a .image .now) (a .sheet .now) (a .base) (a .owners .now) (a .owner) (passed (set .before .before)) in
+    rw (set .set-by .ensures, read .read .ensures) (set-guaranteed (a .image .now) (a .sheet .now) (shown .fits), omega (arith, guaranteed (a .image .now) (shown .fits .read), shown .legal))
 
 same-length-3 : tie.Need-same-length-3
 same-length-3 c = search needs
@@ -98,14 +98,14 @@ returns-3 c =
     let set = move .before .before .before .before in
     let judged = set .before .before .before .before in
     let read = judged .before .before .before in
-    let a = read .before .before .before .before .args in
+    let a = read .before .before .before .before .before .args in
     let xs = a .image .now in
     let s = a .sheet .now in (
       answer judged,
       move .move-to .ensures
           ∙ ap (λ (l : List ℕ). moveTo l (read .read .result) (a .base)) (set .set-by .ensures)
           ∙ ap (λ (q : Reading). moveTo (setBy xs q s) q (a .base)) (read .read .ensures)
-          ∙ sym (release-changed xs s (a .base) (passed (set .before .before))),
+          ∙ sym (release-changed xs s (a .base) (a .owners .now) (a .owner) (passed (set .before .before))),
     )
 
 pub release-spec : {M : Type 1} → statement M

@@ -1,0 +1,146 @@
+/* What the help says of each subcommand, and of all. */
+#include "help_texts.h"
+
+const char read_help[] =
+	"Shows what the header of IMAGE says: its length, component, identity (in hex, and as\n"
+	"text where it is printable), revision, extended number, version, base, the position of\n"
+	"the FSP header, the number of patch entries, the position after the last of them, and\n"
+	"the configuration region's position c and size z.\n"
+	"\n"
+	"The version is major.minor.revision.build, in decimal: the revision's four bytes, with\n"
+	"the extended number's two as upper halves of revision and build. Below header revision\n"
+	"6 there is no extended number, and it is shown as 0x0000.\n"
+	"\n"
+	"--words  also lists the words that a move changes: the base word, then each patch word\n"
+	"         with its entry's index and value, its position and what stands there.\n";
+
+const char release_help[] =
+	"Writes to OUT the image IMAGE with the settings of the release sheet SHEET, moved to BASE,\n"
+	"in one step: OUT has both or is as it was. Shows the base, by how much the image moved, and\n"
+	"how many entries the sheet has. The sheet must be for IMAGE's identity, revision and\n"
+	"extended number, as `read` shows them; all of it, and the base, is judged before a byte is\n"
+	"changed. A sheet has the extended number in its bytes 14 and 15, the low byte first. An\n"
+	"older sheet has 0 there: it is for images whose extended number is 0.\n"
+	"\n"
+	"--owners LIST  says which settings are whose (see pajurenda owners --help). Both groups\n"
+	"               release with the same LIST. Nothing is released without one: `owners all`\n"
+	"               writes the LIST that gives every setting to owner 1.\n"
+	"--owner N      who releases, 1 or 2: SHEET may set the bytes of N's ranges and no others.\n"
+	"\n"
+	"BASE is hex as 0x00512000, as every base is shown, or decimal without a leading 0: a\n"
+	"multiple of 4096, base plus length at most 2^32. `keep` is the base that IMAGE is at, so\n"
+	"that the release only sets. With the sheet of `sheet empty` it only moves.\n";
+
+const char sheet_help[] =
+	"empty  writes to OUT the sheet for IMAGE that sets nothing: a release with it only moves.\n"
+	"make   writes to OUT the sheet for IMAGE that the file TEXT describes.\n"
+	"show   shows SHEET as such a text; with IMAGE, each entry also has in a comment the bytes\n"
+	"       that it would replace and how many of them change. `sheet make` takes the output\n"
+	"       back and makes the same sheet of it.\n"
+	"\n"
+	"TEXT has a line for each entry: its offset in the configuration region (decimal, or hex\n"
+	"after 0x), then its bytes in hex, two digits each, as they stand in the image, with or\n"
+	"without blanks between them. Entries go by ascending offset. `#` starts a comment; empty\n"
+	"lines don't count. A sheet is for one identity, revision and extended number: IMAGE's. Lines\n"
+	"that name them (`identity`, `revision`, `extended`, and the value as `read` shows it) may\n"
+	"stand in TEXT, and then must be IMAGE's.\n"
+	"\n"
+	"    # boot from the second slot\n"
+	"    revision 0x01020304\n"
+	"    40 01 00\n"
+	"    0x60 FFEE      # offset 96\n"
+	"\n"
+	"The library judges every sheet: nothing is written unless it takes the sheet for IMAGE, and\n"
+	"of a text it refuses the line is named. make and empty show what the sheet is for, how many\n"
+	"entries it has and its length.\n";
+
+const char made_out_help[] =
+	"\n"
+	"OUT may be none of the inputs. It is written whole or not at all, as by `release`.\n";
+
+const char owners_help[] =
+	"all   writes to OUT the list that gives every setting of IMAGE to owner 1, as a text that a\n"
+	"      person can read and edit.\n"
+	"show  shows LIST beside IMAGE's configuration region: each range with its first and last\n"
+	"      position in IMAGE, and in comments what lies between them and is nobody's. The output\n"
+	"      is such a text again, of the same list.\n"
+	"\n"
+	"A list says which setting bytes are whose, for `release --owners`. As text it has a line for\n"
+	"each range: its offset in the configuration region, its length and its owner, 1 or 2\n"
+	"(decimal, or hex after 0x). `#` starts a comment; empty lines don't count.\n"
+	"\n"
+	"    # the board group\n"
+	"    32 8 1\n"
+	"    # the tester group\n"
+	"    40 2 2\n"
+	"    0x60 16 2      # offsets 96 to 111\n"
+	"\n"
+	"Ranges go by ascending offset, none empty and none into the next, within offsets 32 to z-1;\n"
+	"there are at most 64, or none. What is in no range is nobody's: no release sets it.\n"
+	"\n"
+	"LIST may also have the bytes that the library takes: eight for each range, offset (4), length\n"
+	"(2), owner (2), each low byte first. A file with a 0 among its bytes is taken so, any other as\n"
+	"text; the empty file is the list without ranges. The library judges every list: of one that it\n"
+	"refuses the line is named, or the range counted from 0.\n";
+
+const char setting_help[] =
+	"Shows the place in the image, the length and the bytes of the setting of LENGTH bytes at\n"
+	"OFFSET in the configuration region, as sheets and `audit --ranges` name it.\n"
+	"\n"
+	"OFFSET and LENGTH are decimal without a leading 0, or hex after 0x.\n";
+
+const char audit_help[] =
+	"Compares SHIPPED with VENDOR moved to SHIPPED's base and shows that base, how many bytes\n"
+	"differ in settings and elsewhere (strays), how many bits in settings, each byte that\n"
+	"differs (S a setting, X a stray, with its position) and the verdict: explained where\n"
+	"there are no strays. Every difference is listed, however many there are.\n"
+	"\n"
+	"--bytes   each difference also has the byte it should be (VENDOR's, moved) and the byte\n"
+	"          it is, in hex.\n"
+	"--ranges  neighbouring positions of one kind are one line: first and last position,\n"
+	"          length, and where they lie in VENDOR: `region offset N` (a setting), `patch\n"
+	"          word N`, `base word`, `tables`, `region header` or `elsewhere`.\n"
+	"\n"
+	"Exit status: 0 explained, 1 unexplained, 2 refused or failed.\n";
+
+const char handoff_help[] =
+	"Shows the hand-off blocks that firmware left in memory, from the first byte of DUMP up to\n"
+	"the end block: place, type (by the PI specification's name), length, and what a block of\n"
+	"its kind has: a resource its type, attributes, start, size, last byte and owner, a GUID\n"
+	"block its name and its data's place and length. Other types, and a later HANDOFF, have\n"
+	"`unknown kind`. Places count from DUMP's first byte. Bytes after the end block don't\n"
+	"count. Of a refused list the blocks before the one at fault are shown, then `refused N`.\n"
+	"\n"
+	"--json  one JSON document: `blocks`, in order, then `number` (0, or the refusal's) and its\n"
+	"        `name`, `place` (of the end block, or the fault) and `count` (of the blocks).\n"
+	"        Addresses, sizes and attributes are text (\"0x0009FC00\"), GUIDs too; `last` of an\n"
+	"        empty resource is null.\n"
+	"\n"
+	"The list must end in the first 67108864 bytes.\n";
+
+const char out_help[] =
+	"\n"
+	"OUT may be IMAGE, not SHEET or LIST. It is written whole or not at all: a new file takes its\n"
+	"name, with the old one's mode, when every byte is on the disk. A link is followed; a file that\n"
+	"may not be written stays. OUT stands even where standard output then can't be written.\n";
+
+const char status_help[] =
+	"\n"
+	"Exit status: 0 done, 2 refused or failed.\n";
+
+const char general_help[] =
+	"\n"
+	"Numbers: hex as 0x00512000, or decimal without a leading 0; they must fit 64 bits. A base,\n"
+	"an address, a revision, an extended number, a word and bytes are shown in hex, all else\n"
+	"in decimal.\n"
+	"\n"
+	"Options may stand before or after the files; `--` ends them. A file named like an option\n"
+	"or `help` is given as ./NAME. `--owners=LIST` is `--owners LIST`. A file longer than 16777216\n"
+	"bytes is refused as an image: with 1, as SHIPPED with 19, as SHEET with 15, as LIST with 23\n"
+	"where it is no text; as TEXT it is an error. A file that can't be read is an error, not an\n"
+	"empty image.\n"
+	"\n"
+	"Exit status: 0 done (audit: explained), 1 audit: unexplained, 2 refused, wrong usage or\n"
+	"an input or output error. A refusal prints `refused N` and, on standard error, the file,\n"
+	"the rule and the values that decided; nothing is written to OUT then. The refusals:\n"
+	"\n";
