@@ -46,5 +46,6 @@ enum status do_owners_show(char **word, const struct options *options);
 enum status do_setting(char **word, const struct options *options);
 enum status do_audit(char **word, const struct options *options);
 enum status do_handoff(char **word, const struct options *options);
+enum status do_station(char **word, const struct options *options);
 
 #endif

@@ -40,6 +40,8 @@ static const struct command commands[] = {
 	  audit_help },
 	{ "handoff", { "DUMP" }, JSON, do_handoff, "[--json] DUMP",
 	  "shows the hand-off blocks that firmware left", handoff_help },
+	{ "station", { "LOG" }, 0, do_station, "LOG",
+	  "follows a boot log and says which call came out of order", station_help },
 };
 
 #define COMMANDS (sizeof commands / sizeof commands[0])
@@ -160,6 +162,7 @@ static void show_general(void)
 	show_refusals(PAJURENDA_LENGTH, PAJURENDA_ROOM);
 	show_refusals(PAJURENDA_RESERVED, PAJURENDA_OWNER);
 	show_refusals(PAJURENDA_BLOCK, PAJURENDA_KIND);
+	show_refusals(PAJURENDA_ORDER, PAJURENDA_UNKNOWN);
 	puts("\nAn image is judged in the order 1 to 12, 22, 13, 14, a release then 15, 23, 16, 17, 24,\n"
 	     "18; the first that applies is told. The audit here makes its list as long as it must\n"
 	     "be, so 20 is for other callers.");
@@ -178,7 +181,7 @@ enum status show_help(const struct command *command)
 		fputs(out_help, stdout);
 	if (command->help == sheet_help || command->help == owners_help)
 		fputs(made_out_help, stdout);
-	if (command->run != do_audit)
+	if (command->run != do_audit && command->run != do_station)
 		fputs(status_help, stdout);
 	return FINE;
 }

@@ -118,6 +118,31 @@ const char handoff_help[] =
 	"\n"
 	"The list must end in the first 67108864 bytes.\n";
 
+const char station_help[] =
+	"Follows the boot log LOG from a reset on: for each call its line, its name and `accepted`, or\n"
+	"`refused`, the number and what was expected in its place. A refused call changes nothing: the\n"
+	"next one is judged as if it had not been made. Then how many calls, resets and refused calls\n"
+	"there are, and what may come next. The first refused call is also told on standard error.\n"
+	"\n"
+	"LOG has a call a line. By name: TempRamInit, MemoryInit (or FspMemoryInit), TempRamExit,\n"
+	"SiliconInit (or FspSiliconInit); AfterPciEnumeration, ReadyToBoot and EndOfFirmware, alone or\n"
+	"after NotifyPhase, also with EnumInitPhase before them. By number: 1 to 4 in the order above, a\n"
+	"notification as `notify 0x20` (or `5 0x20`). `reset` starts afresh. `#` starts a comment; empty\n"
+	"lines don't count.\n"
+	"\n"
+	"    TempRamInit\n"
+	"    FspMemoryInit\n"
+	"    TempRamExit\n"
+	"    FspSiliconInit\n"
+	"    notify 0x20                # AfterPciEnumeration\n"
+	"    NotifyPhase ReadyToBoot\n"
+	"    EndOfFirmware\n"
+	"\n"
+	"A name or number that nothing has is refused with 41. A line that is no call at all is an error\n"
+	"that names the line, and ends it.\n"
+	"\n"
+	"Exit status: 0 no call is refused, 2 some call is refused, or failed.\n";
+
 const char out_help[] =
 	"\n"
 	"OUT may be IMAGE, not SHEET or LIST. It is written whole or not at all: a new file takes its\n"
@@ -137,10 +162,11 @@ const char general_help[] =
 	"Options may stand before or after the files; `--` ends them. A file named like an option\n"
 	"or `help` is given as ./NAME. `--owners=LIST` is `--owners LIST`. A file longer than 16777216\n"
 	"bytes is refused as an image: with 1, as SHIPPED with 19, as SHEET with 15, as LIST with 23\n"
-	"where it is no text; as TEXT it is an error. A file that can't be read is an error, not an\n"
+	"where it is no text; as TEXT or LOG it is an error. A file that can't be read is an error, not an\n"
 	"empty image.\n"
 	"\n"
 	"Exit status: 0 done (audit: explained), 1 audit: unexplained, 2 refused, wrong usage or\n"
-	"an input or output error. A refusal prints `refused N` and, on standard error, the file,\n"
-	"the rule and the values that decided; nothing is written to OUT then. The refusals:\n"
+	"an input or output error. A refusal prints `refused N` (station: in the line of each call)\n"
+	"and, on standard error, the file, the rule and the values that decided; nothing is written to\n"
+	"OUT then. The refusals:\n"
 	"\n";

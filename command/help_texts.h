@@ -10,6 +10,7 @@ extern const char owners_help[];
 extern const char setting_help[];
 extern const char audit_help[];
 extern const char handoff_help[];
+extern const char station_help[];
 extern const char out_help[];
 extern const char status_help[];
 extern const char general_help[];

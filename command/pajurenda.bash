@@ -9,7 +9,7 @@ _pajurenda_word()
 	sheet:0) echo sheets ;;
 	owners:0) echo lists ;;
 	release:2) echo bases ;;
-	read:0 | release:[013] | setting:0 | audit:[01] | handoff:0) echo files ;;
+	read:0 | release:[013] | setting:0 | audit:[01] | handoff:0 | station:0) echo files ;;
 	sheet\ empty:[01] | sheet\ make:[012] | sheet\ show:[01] | owners\ all:[01] | owners\ show:[01]) echo files ;;
 	*) echo nothing ;;
 	esac
@@ -77,8 +77,8 @@ _pajurenda()
 	case $(_pajurenda_kind) in
 	options) offered=$(_pajurenda_options "$command") ;;
 	numbers) offered='1 2' ;;
-	commands) offered='read release sheet owners setting audit handoff help' ;;
-	topics) offered='read release sheet owners setting audit handoff' ;;
+	commands) offered='read release sheet owners setting audit handoff station help' ;;
+	topics) offered='read release sheet owners setting audit handoff station' ;;
 	sheets) offered='empty make show' ;;
 	lists) offered='all show' ;;
 	bases) offered='keep' ;;

@@ -137,7 +137,7 @@ bool take_field(const struct text *text, const struct field *field, const char *
 		uint64_t *value)
 {
 	const enum number number = read_number(word, value);
-	if (number == NUMBER && *value >> field->bits == 0)
+	if (number == NUMBER && (field->bits >= 64 || *value >> field->bits == 0))
 		return true;
 	begin_fault(text);
 	say_word(field->name, word);

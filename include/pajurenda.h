@@ -1,6 +1,7 @@
 /*
  * pajurenda: reads, releases (sets and moves) and audits one firmware support image (FSP) in lent
- * memory, and reads the list of hand-off blocks that firmware leaves after a boot.
+ * memory, reads the list of hand-off blocks that firmware leaves after a boot, and follows the order in
+ * which a boot calls the firmware.
  *
  * A slice passes as a pointer and then its length in bytes. No pointer may be null, even where the
  * length is 0. A buffer that is written (an image to release, a list of places, an answer) must not
@@ -11,14 +12,15 @@
  * offsets named below, from the buffer's first byte. Bytes after the answer are kept. The call
  * returns the answer's number: 0 where accepted, else that of the refusal (images 1 to 20 and 22 to
  * 24, hand-off blocks 30 to 33). Where the answer buffer is shorter than the answer, the call returns
- * PAJURENDA_SHORT and nothing at all is written anywhere.
+ * PAJURENDA_SHORT and nothing at all is written anywhere. The calls of the station have no answer but
+ * the number they return (40 and 41 are theirs), and a state in the answer buffer's place.
  *
- * A refused call changes no byte of an image and no byte of a list.
+ * A refused call changes no byte of an image, of a list or of a state.
  *
  * Small inline functions at the end read a field of an answer and a place of the audit's list, make
  * an image's empty sheet and the owner list that gives all its settings to one owner, take its
- * version apart, and give each number its name and its rule in a sentence, and each kind of block its
- * name. C99 and later, and C++.
+ * version apart, and give each number its name and its rule in a sentence, and each kind of block and
+ * each call of the station its name. C99 and later, and C++.
  */
 #ifndef PAJURENDA_H
 #define PAJURENDA_H
@@ -31,9 +33,9 @@ extern "C" {
 #endif
 
 /* The version of header and library: the whole, and its three numbers. */
-#define PAJURENDA_VERSION "0.10.0"
+#define PAJURENDA_VERSION "0.11.0"
 #define PAJURENDA_VERSION_MAJOR 0
-#define PAJURENDA_VERSION_MINOR 10
+#define PAJURENDA_VERSION_MINOR 11
 #define PAJURENDA_VERSION_PATCH 0
 
 /* The answer's number. A check is made only if all earlier ones passed. */
@@ -66,7 +68,9 @@ enum {
 	PAJURENDA_FIRST = 31,     /* the first block isn't the handoff block of 56 bytes */
 	PAJURENDA_NOTHING = 32,   /* no byte is left where a block should stand; before 30 */
 	PAJURENDA_KIND = 33,      /* a resource, GUID or end block of a length it can't have */
-	PAJURENDA_SHORT = 100     /* the answer buffer is too short; nothing was written */
+	PAJURENDA_ORDER = 40,     /* a call of a boot out of order */
+	PAJURENDA_UNKNOWN = 41,   /* a call or notification that there is none of; before 40 */
+	PAJURENDA_SHORT = 100     /* the answer buffer, or a state, is too short; nothing was written */
 };
 
 /* Limits of document 01 in bytes, and how a place of the audit's list is written. */
@@ -174,6 +178,19 @@ enum {
 	PAJURENDA_HANDOFFS_BYTES = 24
 };
 
+/* The station: how long its state is, the calls of a boot, and the notifications of the last. */
+enum {
+	PAJURENDA_STATION_BYTES = 8,
+	PAJURENDA_CALL_TEMP_RAM_INIT = 1,
+	PAJURENDA_CALL_MEMORY_INIT = 2,
+	PAJURENDA_CALL_TEMP_RAM_EXIT = 3,
+	PAJURENDA_CALL_SILICON_INIT = 4,
+	PAJURENDA_CALL_NOTIFY_PHASE = 5, /* with one of the three below */
+	PAJURENDA_NOTIFY_AFTER_PCI_ENUMERATION = 0x20,
+	PAJURENDA_NOTIFY_READY_TO_BOOT = 0x40,
+	PAJURENDA_NOTIFY_END_OF_FIRMWARE = 0xF0
+};
+
 /*
  * Reads an image: number 0 and its facts, or one of the image's own refusals, which every call on an
  * image has: 1 to 12, 22, 13, 14, looked at in this order.
@@ -236,6 +253,19 @@ uint32_t pajurenda_handoff(const uint8_t *buffer, size_t length, uint64_t cursor
  */
 uint32_t pajurenda_handoffs(const uint8_t *buffer, size_t length,
 			    uint8_t *answer, size_t answer_length);
+
+/*
+ * One call of a boot, in the order that the state stands for; 41, then 40, else 0 and the state after
+ * it. The state is PAJURENDA_STATION_BYTES of the caller's, a little-endian number: all 0 after a
+ * reset, and else as the call left it. Any bytes may be given: in those that are no state every call is
+ * refused. The notification has a say with PAJURENDA_CALL_NOTIFY_PHASE alone. Neither number is cut
+ * down.
+ */
+uint32_t pajurenda_station(uint8_t *state, size_t state_length, uint64_t call,
+			   uint64_t notification);
+
+/* The state of a station that was reset, whatever it was before: always 0, or PAJURENDA_SHORT. */
+uint32_t pajurenda_station_reset(uint8_t *state, size_t state_length);
 
 /* ---- for the caller's ease: nothing below judges an image or a list ---- */
 
@@ -390,6 +420,30 @@ static inline const char *pajurenda_kind_name(uint64_t kind)
 	}
 }
 
+/* The name of a call of a boot; "unknown" where there is none. */
+static inline const char *pajurenda_call_name(uint64_t call)
+{
+	switch (call) {
+	case PAJURENDA_CALL_TEMP_RAM_INIT: return "TempRamInit";
+	case PAJURENDA_CALL_MEMORY_INIT: return "MemoryInit";
+	case PAJURENDA_CALL_TEMP_RAM_EXIT: return "TempRamExit";
+	case PAJURENDA_CALL_SILICON_INIT: return "SiliconInit";
+	case PAJURENDA_CALL_NOTIFY_PHASE: return "NotifyPhase";
+	default: return "unknown";
+	}
+}
+
+/* The name of a notification; "unknown" where there is none. */
+static inline const char *pajurenda_notification_name(uint64_t notification)
+{
+	switch (notification) {
+	case PAJURENDA_NOTIFY_AFTER_PCI_ENUMERATION: return "AfterPciEnumeration";
+	case PAJURENDA_NOTIFY_READY_TO_BOOT: return "ReadyToBoot";
+	case PAJURENDA_NOTIFY_END_OF_FIRMWARE: return "EndOfFirmware";
+	default: return "unknown";
+	}
+}
+
 /* The name of an answer's number; "unknown" where it is no answer. */
 static inline const char *pajurenda_name(uint32_t number)
 {
@@ -422,6 +476,8 @@ static inline const char *pajurenda_name(uint32_t number)
 	case PAJURENDA_FIRST: return "FIRST";
 	case PAJURENDA_NOTHING: return "NOTHING";
 	case PAJURENDA_KIND: return "KIND";
+	case PAJURENDA_ORDER: return "ORDER";
+	case PAJURENDA_UNKNOWN: return "UNKNOWN";
 	case PAJURENDA_SHORT: return "SHORT";
 	default: return "unknown";
 	}
@@ -504,7 +560,14 @@ static inline const char *pajurenda_sentence(uint32_t number)
 		return "every byte that the sheet sets must be in a range of the owner who asks";
 	case PAJURENDA_PAIR: return "the two images must be equally long";
 	case PAJURENDA_ROOM: return "the list must have a place for each difference";
-	case PAJURENDA_SHORT: return "the answer buffer must have room for the answer";
+	case PAJURENDA_ORDER:
+		return "after a reset come TempRamInit or not, MemoryInit, TempRamExit where TempRamInit "
+		       "came, SiliconInit, notifications 0x20, 0x40, 0xF0; each once, in this order";
+	case PAJURENDA_UNKNOWN:
+		return "a call must be TempRamInit, MemoryInit, TempRamExit, SiliconInit or NotifyPhase (1 "
+		       "to 5), a notification 0x20, 0x40 or 0xF0";
+	case PAJURENDA_SHORT:
+		return "the buffer of an answer, or of a station's state, must have room for it";
 	default: return "unknown";
 	}
 }

@@ -18,13 +18,13 @@ offers() {
 	count=$((count + 1))
 }
 
-offers 'audit|handoff|help|owners|read|release|setting|sheet' ''
+offers 'audit|handoff|help|owners|read|release|setting|sheet|station' ''
 offers 'audit' a
 offers 'read|release' r
-offers 'setting|sheet' s
+offers 'setting|sheet|station' s
 offers '--help|--version' -
 offers '--version' --v
-offers 'audit|handoff|owners|read|release|setting|sheet' help ''
+offers 'audit|handoff|owners|read|release|setting|sheet|station' help ''
 offers '' help sheet ''
 offers '' help owners ''
 offers 'handoff|help' h
@@ -100,6 +100,9 @@ offers 'a b|image' audit -- image ''
 offers 'a b|image' handoff ''
 offers 'a b|image' handoff --json ''
 offers '' handoff image ''
+offers 'a b|image' station ''
+offers '--help' station -
+offers '' station image ''
 offers '' nonsense ''
 [[ $(complete -p pajurenda) == *_pajurenda* ]] || { echo "no completion of the command" >&2; exit 1; }
 echo $((count + 1))

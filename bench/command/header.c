@@ -53,6 +53,26 @@ static void try_handoff(void)
 	check(PAJURENDA_HANDOFFS_COUNT + 8 == PAJURENDA_HANDOFFS_BYTES, "a walk's last field");
 }
 
+/* The station's names: each its own, and none for what there is none of. */
+static void try_station(void)
+{
+	static const char *const calls[] = { "unknown", "TempRamInit", "MemoryInit", "TempRamExit", "SiliconInit", "NotifyPhase", "unknown" };
+	for (uint64_t call = 0; call <= 6; call++)
+		check(strcmp(pajurenda_call_name(call), calls[call]) == 0, "a call's name");
+	check(strcmp(pajurenda_call_name(0x100000001u), "unknown") == 0, "a name of a call cut down");
+	for (uint64_t number = 0; number <= 0x200; number++) {
+		const char *wanted = number == 0x20 ? "AfterPciEnumeration" : number == 0x40 ? "ReadyToBoot" : number == 0xF0 ? "EndOfFirmware" : "unknown";
+		check(strcmp(pajurenda_notification_name(number), wanted) == 0, "a notification's name");
+	}
+	check(strcmp(pajurenda_name(40), "ORDER") == 0 && strcmp(pajurenda_name(41), "UNKNOWN") == 0, "the names of 40 and 41");
+	for (uint32_t i = 40; i <= 41; i++) {
+		check(strlen(pajurenda_sentence(i)) > 10 && !pajurenda_has_index(i), "40 and 41");
+		for (uint32_t j = 0; j < i; j++)
+			check(strcmp(pajurenda_sentence(i), pajurenda_sentence(j)) != 0, "two sentences alike");
+	}
+	check(PAJURENDA_STATION_BYTES == 8, "the length of a state");
+}
+
 /* Each number has its name and a sentence that no other has. */
 static void try_numbers(void)
 {
@@ -67,7 +87,7 @@ static void try_numbers(void)
 	}
 	check(strcmp(pajurenda_name(PAJURENDA_SHORT), "SHORT") == 0, "the name of 100");
 	check(strcmp(pajurenda_sentence(PAJURENDA_SHORT), "unknown") != 0, "the sentence of 100");
-	static const uint32_t others[] = { 21, 25, 29, 34, 99, 101, 65536, 65537, 4294967295u };
+	static const uint32_t others[] = { 21, 25, 29, 34, 39, 42, 99, 101, 65536, 65537, 4294967295u };
 	for (size_t i = 0; i < sizeof others / sizeof others[0]; i++) {
 		check(strcmp(pajurenda_name(others[i]), "unknown") == 0, "a name of no answer");
 		check(strcmp(pajurenda_sentence(others[i]), "unknown") == 0, "a sentence of no answer");
@@ -195,6 +215,7 @@ int main(void)
 {
 	try_numbers();
 	try_handoff();
+	try_station();
 	try_fields();
 	try_image_version();
 	try_sheets();

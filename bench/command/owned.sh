@@ -45,13 +45,14 @@ try_foreign_bytes() {
 	put_ranges l 32 8 1 40 1 1 41 10 2
 	keeps "$o" values 24 b "entry 0 (counted from 0) has offset 40 length 2, owner 1 asks, offset 41 is owner 2's by l, range 2 (counted from 0): \
 41 10 2" release --owners l --owner 1 v b keep "$o/out"
-	put_ranges "$i/new
-line" 40 1 1
-	keeps "$o" values 24 b "entry 0 (counted from 0) has offset 40 length 2, owner 1 asks, offset 41 is nobody's by new?line" \
-		release --owners 'new
-line' --owner 1 v b keep "$o/out"
-	rm 'new
+	odd='new
 line'
+	put_ranges "$odd" 40 1 1
+	keeps "$o" values 24 b "entry 0 (counted from 0) has offset 40 length 2, owner 1 asks, offset 41 is nobody's by new?line" \
+		release --owners "$odd" --owner 1 v b keep "$o/out"
+	keeps "$o" values 24 b "entry 0 (counted from 0) has offset 40 length 2, owner 2 asks, offset 40 is owner 1's by new?line, \
+range 0 (counted from 0): 40 1 1" release --owners "$odd" --owner 2 v b keep "$o/out"
+	rm "$odd"
 }
 
 # the first byte at fault in whichever entry; over touching ranges of one owner, and not over a gap

@@ -14,9 +14,9 @@ help_is() {
 try_help() {
 	works 0 --help
 	cp "$work/out" "$work/help.all"
-	for word in read release 'sheet empty' 'sheet make' 'sheet show' 'owners all' 'owners show' setting audit handoff help --words --bytes --ranges \
+	for word in read release 'sheet empty' 'sheet make' 'sheet show' 'owners all' 'owners show' setting audit handoff station help --words --bytes --ranges \
 		--json --owners --owner --version 'Exit status' ' 20  ROOM' ' 22  RESERVED' ' 23  OWNERS' ' 24  OWNER' '1 to 12, 22, 13, 14' \
-		'15, 23, 16, 17, 24' ' 33  KIND'; do
+		'15, 23, 16, 17, 24' ' 33  KIND' ' 40  ORDER' ' 41  UNKNOWN'; do
 		grep -qF -e "$word" "$work/out" || fail "the help does not speak of $word"
 		passed
 	done
@@ -24,11 +24,13 @@ try_help() {
 		# shellcheck disable=SC2086
 		help_is all $words
 	done
-	for name in read release sheet owners setting audit handoff; do
+	for name in read release sheet owners setting audit handoff station; do
 		works 0 help "$name"
 		cp "$work/out" "$work/help.$name"
 		[ "$(head -n 1 "$work/out" | cut -d ' ' -f 1-3)" = "usage: pajurenda $name" ] || fail "no usage first"
-		grep -q '^Exit status: 0 .* 2 refused or failed' "$work/out" || fail "no exit status"
+		grep -q -e '^Exit status: 0 .* 2 refused or failed' -e '^Exit status: 0 no call is refused, 2 some call is refused, or failed' "$work/out" ||
+			fail "no exit status"
+		[ "$(grep -c '^Exit status' "$work/out")" -eq 1 ] || fail "more than one exit status"
 		for words in "$name --help" "$name -h" "$name help" "--help $name" "-h $name" "$name a b c d --help" "$name --help --"; do
 			# shellcheck disable=SC2086
 			help_is "$name" $words

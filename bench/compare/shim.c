@@ -5,6 +5,7 @@
 
 #include "../second/handoff.h"
 #include "../second/second.h"
+#include "../second/station.h"
 
 #define FIELDS(list) (sizeof(list) / sizeof((list)[0]))
 
@@ -117,4 +118,23 @@ uint32_t pajurenda_handoffs(const uint8_t *buffer, size_t length,
 	const uint64_t fields[] = { r.number, r.place, r.count };
 	put_fields(answer, fields, FIELDS(fields));
 	return (uint32_t)r.number;
+}
+
+/* One call in a boot log; our own state number is the state. */
+uint32_t pajurenda_station(uint8_t *state, size_t state_length, uint64_t call, uint64_t notification)
+{
+	if (state_length < PAJURENDA_STATION_BYTES)
+		return PAJURENDA_SHORT;
+	const struct second_stepped r = second_station(get_number(state, 0, PAJURENDA_STATION_BYTES), call, notification);
+	put_number(state, 0, PAJURENDA_STATION_BYTES, r.state);
+	return (uint32_t)r.number;
+}
+
+/* A boot log begins. */
+uint32_t pajurenda_station_reset(uint8_t *state, size_t state_length)
+{
+	if (state_length < PAJURENDA_STATION_BYTES)
+		return PAJURENDA_SHORT;
+	put_number(state, 0, PAJURENDA_STATION_BYTES, AT_RESET);
+	return PAJURENDA_ACCEPTED;
 }

@@ -12,6 +12,13 @@ use Rattle.handoff.specs.Step.{stepped}
 use Rattle.handoffs.specs.Blocks.{blocks, counted}
 use Rattle.answers.specs.Steps.{stepFields, countFields}
 use Rattle.answers.specs.Answers.{ifRoom, result, answered, readFields, moveFields, sheetFields, finding, settingFields, auditFields}
+use mathlib.Core.Bool.{cond}
+use Rattle.facts.specs.Fact.{_≤?_, test}
+use Rattle.words.specs.Le.{le}
+use Rattle.words.specs.Put.{put}
+use Rattle.image.specs.After.{unlessRefused}
+use Rattle.order.specs.declared.Answer.{Answer}
+use Rattle.order.specs.Order.{atReset, ordered}
 
 -- `pajurenda_read`
 abbrev pub ReadCall : List ℕ → List ℕ → ℕ → List ℕ → Type 0
@@ -45,3 +52,25 @@ HandoffCall xs at A r a = (r ≡ result 10 A (stepped xs at .number)) × (a ≡ 
 -- `pajurenda_handoffs`
 abbrev pub HandoffsCall : List ℕ → List ℕ → ℕ → List ℕ → Type 0
 HandoffsCall xs A r a = (r ≡ result 3 A (counted (blocks xs) .number)) × (a ≡ answered A (countFields (counted (blocks xs))))
+
+-- ---- request #108, the station: its state is the number that the first eight bytes hold
+
+-- the answer of the step in that state
+abbrev pub stationed : List ℕ → ℕ → ℕ → Answer
+stationed xs call n = ordered (le 8 xs 0) call n
+
+-- the bytes afterwards, where there are eight: the next state, and what followed it; a refused call changes none
+abbrev pub stationBytes : List ℕ → ℕ → ℕ → List ℕ
+stationBytes xs call n = unlessRefused (stationed xs call n .number) (put 8 xs 0 (stationed xs call n .state)) xs
+
+-- `pajurenda_station`; ys is the state's buffer afterwards
+abbrev pub StationCall : List ℕ → ℕ → ℕ → ℕ → List ℕ → Type 0
+StationCall xs call n r ys = (r ≡ result 1 xs (stationed xs call n .number)) × (ys ≡ ifRoom 1 xs (stationBytes xs call n) xs)
+
+-- `pajurenda_station_reset`
+abbrev pub StationResetCall : List ℕ → ℕ → List ℕ → Type 0
+StationResetCall xs r ys = (r ≡ result 1 xs 0) × (ys ≡ ifRoom 1 xs (put 8 xs 0 atReset) xs)
+
+-- the state that a record of 32 bits stands in for the number w
+abbrev pub stateOf : ℕ → ℕ
+stateOf w = cond (test (w ≤? 4294967295)) w 4294967295

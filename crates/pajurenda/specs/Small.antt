@@ -25,6 +25,10 @@ use Rattle.audit.specs.Small.{shipped, small-audit}
 use Rattle.answers.specs.declared.Found.{Found}
 use Rattle.answers.specs.Answers.{ifRoom, result, answered, twos, readFields, moveFields, sheetFields, finding, settingFields, auditFields}
 use Rattle.answers.specs.AnswerLaws.{found-accepted}
+use mathlib.Core.List.{[], _∷_}
+use Rattle.image.specs.After.{unlessRefused}
+use Rattle.order.specs.Order.{tempRamInit, atReset, noted, byRows, ordered}
+use Rattle.pajurenda.specs.Promises.{stationed, stationBytes}
 
 abbrev maker : List ℕ
 maker = small 0xFFF80000 0xFFF80040 (settingBytes 0 1)
@@ -70,3 +74,24 @@ audit-answer = ap (λ (r : Audited). answered (zeros 56) (auditFields r)) small-
 pub short-result : (k : ℕ) → result 12 (zeros 95) k ≡ 100
 unfolding ifRoom test zeros
 short-result k = refl
+
+-- ---- request #108: the station's state of eight bytes and a byte after them
+
+-- TempRamInit at reset: 0, and the next state
+pub station-answer : (result 1 (number 8 0 ++ (0xAA ∷ [])) (stationed (number 8 0 ++ (0xAA ∷ [])) tempRamInit 0 .number) ≡ 0)
+    × (ifRoom 1 (number 8 0 ++ (0xAA ∷ [])) (stationBytes (number 8 0 ++ (0xAA ∷ [])) tempRamInit 0) [] ≡ number 8 1 ++ (0xAA ∷ []))
+unfolding ifRoom unlessRefused test le put digit number noted byRows ordered
+station-answer = (refl, refl)
+
+-- 2^32 isn't cut down to the reset's state: 40, or 41 first, and every byte is kept
+pub station-other : (stationed (number 8 (2 ^ 32)) tempRamInit 0 .number ≡ 40)
+    × (stationed (number 8 (2 ^ 32)) 6 0 .number ≡ 41)
+    × (stationBytes (number 8 (2 ^ 32)) tempRamInit 0 ≡ number 8 (2 ^ 32))
+unfolding unlessRefused test le put digit number noted byRows ordered
+station-other = (refl, refl, refl)
+
+-- the reset, in any state; seven bytes are too few
+pub station-reset : (ifRoom 1 (number 8 (2 ^ 64 - 1)) (put 8 (number 8 (2 ^ 64 - 1)) 0 atReset) [] ≡ number 8 0)
+    × (result 1 (number 7 0) 0 ≡ 100)
+unfolding ifRoom test put digit number
+station-reset = (refl, refl)

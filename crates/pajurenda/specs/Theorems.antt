@@ -20,6 +20,7 @@ use Rattle.answers.specs.Answers.{answered}
 use Rattle.answers.specs.AnswerLaws.{roomy, short}
 use Rattle.pajurenda.specs.Promises.{ReadCall, ReleaseCall, SheetCall, SettingCall, AuditCall, HandoffCall, HandoffsCall}
 use Rattle.pajurenda.specs.FieldLaws.{Small, small-at, entries-small}
+use Rattle.pajurenda.specs.Promises.{StationCall, StationResetCall}
 
 -- ---- the answer's buffer
 
@@ -91,3 +92,12 @@ one-handoff-call xs A at r s a b (e, f) (g, h) = (e ∙ sym g, f ∙ sym h)
 
 pub one-handoffs-call : (xs A : List ℕ) (r s : ℕ) (a b : List ℕ) → HandoffsCall xs A r a → HandoffsCall xs A s b → (r ≡ s) × (a ≡ b)
 one-handoffs-call xs A r s a b (e, f) (g, h) = (e ∙ sym g, f ∙ sym h)
+
+-- ---- request #108, the station
+
+pub one-station-call : (xs : List ℕ) (call n r s : ℕ) (a b : List ℕ) → StationCall xs call n r a → StationCall xs call n s b
+    → (r ≡ s) × (a ≡ b)
+one-station-call xs call n r s a b (e, f) (g, h) = (e ∙ sym g, f ∙ sym h)
+
+pub one-station-reset-call : (xs : List ℕ) (r s : ℕ) (a b : List ℕ) → StationResetCall xs r a → StationResetCall xs s b → (r ≡ s) × (a ≡ b)
+one-station-reset-call xs r s a b (e, f) (g, h) = (e ∙ sym g, f ∙ sym h)

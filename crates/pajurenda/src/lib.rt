@@ -106,3 +106,48 @@ pub extern "C" fn pajurenda_handoffs(buffer: &[u8], answer: &mut [u8]) -> u32
     answers::write_counted(answer, r);
     r.number
 }
+
+// Request #108: the bench's station, its state lent as eight bytes.
+ghost use mathlib.Core.Path.{_≡_};
+ghost use Rattle.pajurenda.specs.Promises.{stateOf, StationCall, StationResetCall};
+
+// The record's state for the number w: one that is none of ours where w doesn't fit.
+fn state_of(w: usize) -> u32
+    ensures { λ r. ⌜ r ≡ stateOf w ⌝ }
+{
+    if 4294967295 < w {
+        return 4294967295;
+    }
+    w as u32
+}
+
+// One call.
+#[no_mangle]
+pub extern "C" fn pajurenda_station(state: &mut [u8], call: u64, notification: u64) -> u32
+    ensures { λ r. ⌜ StationCall (now (state .entry)) call notification r (now (state .exit)) ⌝ }
+{
+    if state.len() < 8 {
+        return 100;
+    }
+    let known = state_of(words::le64(state, 0));
+    let r = station::call_from(known, call, notification);
+    if r.number != 0 {
+        return r.number;
+    }
+    words::put64(state, 0, r.state as u64);
+    0
+}
+
+// A reset.
+#[no_mangle]
+pub extern "C" fn pajurenda_station_reset(state: &mut [u8]) -> u32
+    ensures { λ r. ⌜ StationResetCall (now (state .entry)) r (now (state .exit)) ⌝ }
+{
+    if state.len() < 8 {
+        return 100;
+    }
+    let known = state_of(words::le64(state, 0));
+    let fresh = station::reset_from(known);
+    words::put64(state, 0, fresh as u64);
+    0
+}

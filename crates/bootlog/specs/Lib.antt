@@ -1,0 +1,4 @@
+pub mod Log
+pub mod Grammar
+pub mod Theorems
+pub mod Example
