@@ -1,4 +1,5 @@
--- The answer of a step over hand-off blocks as C sees it, a field each: number, next cursor, place, type, length, kind and the kind's own four.
+-- The answer of a step over hand-off blocks as C sees it, a field each: number, next cursor, place, type, length, kind and the kind's own
+-- four.
 -- Assumes nothing.
 use Prim.Native.Nat.{ℕ}
 use mathlib.Core.List.{List, [], _∷_}

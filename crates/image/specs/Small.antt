@@ -35,7 +35,8 @@ header L kind size base c =
     ++ (zeros 3
     ++ (number 1 kind
     ++ (number 4 0x01020304
-    ++ (number 8 0x31302D5441455254 ++ (number 4 size ++ (number 4 base ++ (zeros 2 ++ (number 2 0x1000 ++ (number 4 c ++ (number 4 48 ++ zeros 28)))))))))))
+    ++ (number 8 0x31302D5441455254
+    ++ (number 4 size ++ (number 4 base ++ (zeros 2 ++ (number 2 0x1000 ++ (number 4 c ++ (number 4 48 ++ zeros 28)))))))))))
 
 -- 16 bytes, the patch table: its revision, n, and an entry that counts four bytes back from the end
 abbrev table : List ℕ
@@ -54,7 +55,8 @@ small base word part = volume 240 0x7013 ++ (file 176 116 92 ++ (header 72 3 240
 unfoldable pub later : ℕ → ℕ → ℕ → List ℕ → List ℕ
 later L kind extended part =
     volume 248 0x700B
-    ++ (file 168 124 100 ++ (header L kind 248 0xFFF80000 196 ++ (zeros 4 ++ (number 2 extended ++ (zeros 2 ++ (table ++ region 0xFFF80040 part))))))
+    ++ (file 168 124 100
+    ++ (header L kind 248 0xFFF80000 196 ++ (zeros 4 ++ (number 2 extended ++ (zeros 2 ++ (table ++ region 0xFFF80040 part))))))
 
 -- its settings: zeros, and at 40 in the region these two bytes
 abbrev pub settingBytes : ℕ → ℕ → List ℕ

@@ -3,3 +3,4 @@ pub mod FieldLaws
 pub mod Theorems
 pub mod Small
 pub mod StationLaws
+pub mod Demand

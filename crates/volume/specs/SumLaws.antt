@@ -40,7 +40,8 @@ module _ (xs : List ℕ) where
   -- #103: n words summed k a turn and the rest after are the sum, whatever k is
   pub by-turns : (k n : ℕ) → sumTurns xs k (n / k) + sumFrom xs (k * (n / k)) (n % k) ≡ sumWords xs n
   by-turns k n =
-      let e : sumTurns xs k (n / k) + sumFrom xs (k * (n / k)) (n % k) ≡ sumWords xs (k * (n / k) + n % k) = rw (sum-more (k * (n / k)) (n % k), turns k (n / k)) in
+      let e : sumTurns xs k (n / k) + sumFrom xs (k * (n / k)) (n % k) ≡ sumWords xs (k * (n / k) + n % k) =
+      rw (sum-more (k * (n / k)) (n % k), turns k (n / k)) in
       e ∙ ap (sumWords xs) (div-add-mod n k)
 
 -- the lowest word of a number, and what is above it
@@ -54,7 +55,8 @@ pack ha hb hc hd = (omega arith, omega arith)
 
 -- the four words of a number of 64 bits, summed two and two
 pub four : (xs : List ℕ) (i w : ℕ) → Bytes xs → w ≡ le 8 xs (2 * i)
-    → Halves 1 (sumFrom xs i 4) (w % 65536 + 4294967296 * (w / 4294967296 % 65536) + (w / 65536 % 65536 + 4294967296 * (w / 281474976710656)))
+    → Halves 1 (sumFrom xs i 4)
+    (w % 65536 + 4294967296 * (w / 4294967296 % 65536) + (w / 65536 % 65536 + 4294967296 * (w / 281474976710656)))
 unfolding sumFrom
 four xs i w small e =
     let p₀ : 2 * (i + 0) ≡ 2 * i = omega arith in
@@ -69,7 +71,8 @@ four xs i w small e =
     let w₁ = digits b (w₀ .1 ∙ split xs (2 * i + 2) 2 4) in
     let w₂ = digits c (w₁ .1 ∙ split xs (2 * i + 2 + 2) 2 2) in
     let n₂ : w / 4294967296 ≡ w / 65536 / 65536 = sym (div-div-eq-div-mul w 65536 65536) in
-    let n₃ : w / 281474976710656 ≡ w / 65536 / 65536 / 65536 = sym (div-div-eq-div-mul w 65536 4294967296) ∙ sym (div-div-eq-div-mul (w / 65536) 65536 65536) in
+    let n₃ : w / 281474976710656 ≡ w / 65536 / 65536 / 65536 =
+    sym (div-div-eq-div-mul w 65536 4294967296) ∙ sym (div-div-eq-div-mul (w / 65536) 65536 65536) in
     let h = pack a b c d in
     rw (n₂, n₃, w₀ .0, w₁ .0, w₂ .0, w₂ .1)
     (record { is = rw (h .0, h .1, p₀, p₁, p₂, p₃) (omega arith); low = omega (arith, h .0); high = omega (arith, h .1) })
