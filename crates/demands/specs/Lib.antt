@@ -9,4 +9,5 @@ pub mod Demands
 pub mod Met
 pub mod Isolation
 pub mod IsolationMet
+pub mod AsReleased
 pub mod Reserved
