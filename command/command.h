@@ -10,13 +10,15 @@ enum status { FINE = 0, UNEXPLAINED = 1, FAILED = 2 };
 
 /* The options, as bits. */
 enum option {
-	HELP = 1, VERSION = 2, BYTES = 4, RANGES = 8, WORDS = 16, JSON = 32, OWNERS = 64, OWNER = 128
+	HELP = 1, VERSION = 2, BYTES = 4, RANGES = 8, WORDS = 16, JSON = 32, OWNERS = 64, OWNER = 128,
+	REPORT = 256, TEXT = 512, LIST = 1024, REPORTS = 2048
 };
 
 /* The options of a command line, and the values of those that have one; NULL where it isn't given. */
 struct options {
 	unsigned given;
 	const char *owners, *owner;
+	const char *report, *text, *list, *reports;
 };
 
 /* A file's bytes in memory; never at NULL once loaded, even where empty. */
@@ -28,10 +30,12 @@ struct bytes {
 /* A subcommand, of one word or two: the words and options it takes, and what it says of itself. */
 struct command {
 	const char *name;
-	const char *words[5]; /* the words' names, up to a NULL; one in brackets may be missing */
+	const char *words[5]; /* the words' names, up to a NULL; one in brackets may be missing, one
+				 with dots stands for one or more; with --list there are none */
 	unsigned options;
 	enum status (*run)(char **word, const struct options *options);
 	const char *usage;
+	const char *also; /* another form of use, or NULL */
 	const char *brief;
 	const char *help;
 };
@@ -45,6 +49,7 @@ enum status do_owners_all(char **word, const struct options *options);
 enum status do_owners_show(char **word, const struct options *options);
 enum status do_setting(char **word, const struct options *options);
 enum status do_audit(char **word, const struct options *options);
+enum status do_verify(char **word, const struct options *options);
 enum status do_handoff(char **word, const struct options *options);
 enum status do_station(char **word, const struct options *options);
 

@@ -7,6 +7,7 @@
 
 #include "blocks.h"
 #include "files.h"
+#include "json.h"
 #include "messages.h"
 #include "pajurenda.h"
 #include "refusals.h"
@@ -48,11 +49,13 @@ static enum status show_blocks(const struct bytes *dump, uint64_t count, bool js
 }
 
 /* One document: the blocks, then the answer of the whole walk. */
-static enum status show_document(const struct bytes *dump, uint32_t number, const uint8_t *answer)
+static enum status show_document(const struct named *dump, uint32_t number, const uint8_t *answer)
 {
 	const uint64_t count = pajurenda_field(answer, PAJURENDA_HANDOFFS_COUNT);
-	fputs("{\n  \"blocks\": [", stdout);
-	const enum status status = show_blocks(dump, count, true);
+	begin_json("handoff");
+	json_text("file", dump->name);
+	fputs(",\n  \"blocks\": [", stdout);
+	const enum status status = show_blocks(&dump->bytes, count, true);
 	printf("%s],\n", count == 0 ? "" : "\n  ");
 	printf("  \"number\": %" PRIu32 ",\n  \"name\": \"%s\",\n", number, pajurenda_name(number));
 	printf("  \"place\": %" PRIu64 ",\n  \"count\": %" PRIu64 "\n}\n",
@@ -68,7 +71,7 @@ static enum status show_list(const struct named *dump, bool json)
 	if (dump->bytes.length >= MOST_DUMP && !is_settled(&dump->bytes))
 		return fail_at(dump->name, EFBIG);
 	const enum status status =
-		json ? show_document(&dump->bytes, number, answer)
+		json ? show_document(dump, number, answer)
 		     : show_blocks(&dump->bytes, pajurenda_field(answer, PAJURENDA_HANDOFFS_COUNT), false);
 	if (number == PAJURENDA_ACCEPTED || status != FINE)
 		return status;

@@ -17,30 +17,38 @@
 #define LINE ((size_t)70)
 
 static const struct command commands[] = {
-	{ "read", { "IMAGE" }, WORDS, do_read, "[--words] IMAGE",
+	{ "read", { "IMAGE" }, WORDS | JSON, do_read, "[--words] [--json] IMAGE", NULL,
 	  "shows what an image's header says", read_help },
 	{ "release", { "IMAGE", "SHEET", "BASE", "OUT" }, OWNERS | OWNER, do_release,
-	  "--owners LIST --owner N IMAGE SHEET BASE OUT",
+	  "--owners LIST --owner N IMAGE SHEET BASE OUT", NULL,
 	  "writes the image with a sheet's settings, moved to a base", release_help },
-	{ "sheet empty", { "IMAGE", "OUT" }, 0, do_sheet_empty, "IMAGE OUT",
+	{ "sheet empty", { "IMAGE", "OUT" }, 0, do_sheet_empty, "IMAGE OUT", NULL,
 	  "writes the sheet that sets nothing", sheet_help },
-	{ "sheet make", { "IMAGE", "TEXT", "OUT" }, 0, do_sheet_make, "IMAGE TEXT OUT",
+	{ "sheet make", { "IMAGE", "TEXT", "OUT" }, 0, do_sheet_make, "IMAGE TEXT OUT", NULL,
 	  "writes the sheet that a text describes", sheet_help },
-	{ "sheet show", { "SHEET", "[IMAGE]" }, 0, do_sheet_show, "SHEET [IMAGE]",
+	{ "sheet show", { "SHEET", "[IMAGE]" }, JSON, do_sheet_show, "[--json] SHEET [IMAGE]", NULL,
 	  "shows a sheet as such a text", sheet_help },
-	{ "owners all", { "IMAGE", "OUT" }, 0, do_owners_all, "IMAGE OUT",
+	{ "owners all", { "IMAGE", "OUT" }, 0, do_owners_all, "IMAGE OUT", NULL,
 	  "writes the list that gives every setting to owner 1", owners_help },
-	{ "owners show", { "LIST", "IMAGE" }, 0, do_owners_show, "LIST IMAGE",
+	{ "owners show", { "LIST", "IMAGE" }, 0, do_owners_show, "LIST IMAGE", NULL,
 	  "shows an owner list beside an image's region", owners_help },
-	{ "setting", { "IMAGE", "OFFSET", "LENGTH" }, 0, do_setting, "IMAGE OFFSET LENGTH",
+	{ "setting", { "IMAGE", "OFFSET", "LENGTH" }, 0, do_setting, "IMAGE OFFSET LENGTH", NULL,
 	  "shows one setting", setting_help },
-	{ "audit", { "VENDOR", "SHIPPED" }, BYTES | RANGES, do_audit,
-	  "[--bytes | --ranges] VENDOR SHIPPED",
+	{ "audit", { "VENDOR", "SHIPPED" }, BYTES | RANGES | JSON | REPORT | TEXT | LIST | REPORTS,
+	  do_audit, "[--bytes | --ranges | --json] [--report FILE] [--text FILE]\n"
+		    "                       VENDOR SHIPPED",
+	  "--list FILE [--reports FOLDER]",
 	  "lists every difference of a shipped file, and says whether all are settings",
 	  audit_help },
-	{ "handoff", { "DUMP" }, JSON, do_handoff, "[--json] DUMP",
+	{ "verify", { "VENDOR", "SHEET..", "SHIPPED" },
+	  JSON | REPORT | TEXT | LIST | REPORTS | OWNERS | OWNER, do_verify,
+	  "[--owners LIST --owner N] [--json] [--report FILE] [--text FILE]\n"
+	  "                        VENDOR SHEET.. SHIPPED",
+	  "[--owners LIST --owner N] --list FILE [--reports FOLDER]",
+	  "says whether a shipped file is what releasing with these sheets makes", verify_help },
+	{ "handoff", { "DUMP" }, JSON, do_handoff, "[--json] DUMP", NULL,
 	  "shows the hand-off blocks that firmware left", handoff_help },
-	{ "station", { "LOG" }, 0, do_station, "LOG",
+	{ "station", { "LOG" }, 0, do_station, "LOG", NULL,
 	  "follows a boot log and says which call came out of order", station_help },
 };
 
@@ -147,6 +155,8 @@ static void show_usage(const char *help)
 			continue;
 		printf("%s pajurenda %s %s\n", start, commands[i].name, commands[i].usage);
 		start = "      ";
+		if (commands[i].also != NULL)
+			printf("%s pajurenda %s %s\n", start, commands[i].name, commands[i].also);
 	}
 }
 
@@ -181,7 +191,10 @@ enum status show_help(const struct command *command)
 		fputs(out_help, stdout);
 	if (command->help == sheet_help || command->help == owners_help)
 		fputs(made_out_help, stdout);
-	if (command->run != do_audit && command->run != do_station)
+	if (command->run == do_audit || command->run == do_verify)
+		printf("%s%s", check_help,
+		       command->run == do_audit ? audit_status_help : verify_status_help);
+	else if (command->run != do_station)
 		fputs(status_help, stdout);
 	return FINE;
 }
@@ -192,4 +205,10 @@ enum status show_version(void)
 	puts("pajurenda " PAJURENDA_VERSION);
 	puts("proved with " PAJURENDA_KIT);
 	return FINE;
+}
+
+/* What proved it. */
+const char *kit_name(void)
+{
+	return PAJURENDA_KIT;
 }

@@ -16,5 +16,6 @@ int count_words(const struct command *command);
 const char *find_instead(const char *word);
 enum status show_help(const struct command *command);
 enum status show_version(void);
+const char *kit_name(void);
 
 #endif

@@ -12,7 +12,8 @@ const char read_help[] =
 	"6 there is no extended number, and it is shown as 0x0000.\n"
 	"\n"
 	"--words  also lists the words that a move changes: the base word, then each patch word\n"
-	"         with its entry's index and value, its position and what stands there.\n";
+	"         with its entry's index and value, its position and what stands there.\n"
+	"--json   one JSON document in place of the lines.\n";
 
 const char release_help[] =
 	"Writes to OUT the image IMAGE with the settings of the release sheet SHEET, moved to BASE,\n"
@@ -50,6 +51,8 @@ const char sheet_help[] =
 	"    40 01 00\n"
 	"    0x60 FFEE      # offset 96\n"
 	"\n"
+	"With --json `sheet show` has one JSON document in place of the text.\n"
+	"\n"
 	"The library judges every sheet: nothing is written unless it takes the sheet for IMAGE, and\n"
 	"of a text it refuses the line is named. make and empty show what the sheet is for, how many\n"
 	"entries it has and its length.\n";
@@ -65,9 +68,9 @@ const char owners_help[] =
 	"      position in IMAGE, and in comments what lies between them and is nobody's. The output\n"
 	"      is such a text again, of the same list.\n"
 	"\n"
-	"A list says which setting bytes are whose, for `release --owners`. As text it has a line for\n"
-	"each range: its offset in the configuration region, its length and its owner, 1 or 2\n"
-	"(decimal, or hex after 0x). `#` starts a comment; empty lines don't count.\n"
+	"A list says which setting bytes are whose, for `--owners` of `release` and `verify`. As text it\n"
+	"has a line for each range: its offset in the configuration region, its length and its owner,\n"
+	"1 or 2 (decimal, or hex after 0x). `#` starts a comment; empty lines don't count.\n"
 	"\n"
 	"    # the board group\n"
 	"    32 8 1\n"
@@ -100,8 +103,48 @@ const char audit_help[] =
 	"--ranges  neighbouring positions of one kind are one line: first and last position,\n"
 	"          length, and where they lie in VENDOR: `region offset N` (a setting), `patch\n"
 	"          word N`, `base word`, `tables`, `region header` or `elsewhere`.\n"
+	"--json    one JSON document in place of the lines.\n";
+
+const char verify_help[] =
+	"Says whether SHIPPED is, byte for byte, what releasing VENDOR with these sheets, in this\n"
+	"order, to SHIPPED's base makes: verdict `as released` or `not as released`. Then the base,\n"
+	"the move, each sheet with the count of its entries, how many bytes differ from that release\n"
+	"in settings and elsewhere (strays), how many bits in settings, and a line for each range\n"
+	"that differs, as `audit --ranges` has it, with the bytes it should have and the bytes it has\n"
+	"(`..` where there are more than 16). Of a setting it also says whose it is: `still as the\n"
+	"maker's` (a sheet sets it, and the file has VENDOR's bytes), `neither the sheet's nor the\n"
+	"maker's`, both with the entry and the sheet, or `no sheet sets it`.\n"
 	"\n"
+	"At least one sheet is named; that of `sheet empty` sets nothing.\n"
+	"\n"
+	"--owners LIST --owner N  as `release` has them: each sheet is released by owner N, and what\n"
+	"          `release` would refuse with 23 or 24 is refused here too. Both or neither are\n"
+	"          given; without them whose the settings are has no say: they are all taken to be\n"
+	"          owner 1's, and owner 1 to release.\n"
+	"--json    one JSON document in place of the lines.\n";
+
+const char check_help[] =
+	"--report FILE  also writes a page to file (HTML, one file, no script, nothing to fetch):\n"
+	"          the verdict, the files with their SHA-256 (by the system's sha256sum), what VENDOR\n"
+	"          says of itself, the counts, a map, and the first 1000 ranges with their bytes. Of\n"
+	"          a refused pair the page says that.\n"
+	"--text FILE  also writes every range with all its bytes, a line each.\n"
+	"--list FILE  checks each line of FILE: names as they would follow the command, separated by\n"
+	"          blanks, or by tabs where the line has one; a word that starts with # ends the line.\n"
+	"          Shows a line for each, `line N`, what came of it and the names, and at the end the\n"
+	"          counts. A pair that is refused or can't be read stops no other; the exit status is\n"
+	"          the worst of all.\n"
+	"--reports FOLDER  with --list: a page for each line that could be read goes into FOLDER, as\n"
+	"          line-N-SHIPPED.html.\n"
+	"\n"
+	"FILE may be none of the inputs. It is written whole or not at all, before anything is shown.\n"
+	"\n";
+
+const char audit_status_help[] =
 	"Exit status: 0 explained, 1 unexplained, 2 refused or failed.\n";
+
+const char verify_status_help[] =
+	"Exit status: 0 as released, 1 not as released, 2 refused or failed.\n";
 
 const char handoff_help[] =
 	"Shows the hand-off blocks that firmware left in memory, from the first byte of DUMP up to\n"
@@ -165,8 +208,8 @@ const char general_help[] =
 	"where it is no text; as TEXT or LOG it is an error. A file that can't be read is an error, not an\n"
 	"empty image.\n"
 	"\n"
-	"Exit status: 0 done (audit: explained), 1 audit: unexplained, 2 refused, wrong usage or\n"
-	"an input or output error. A refusal prints `refused N` (station: in the line of each call)\n"
-	"and, on standard error, the file, the rule and the values that decided; nothing is written to\n"
-	"OUT then. The refusals:\n"
+	"Exit status: 0 done (audit: explained; verify: as released), 1 audit: unexplained, verify:\n"
+	"not as released, 2 refused, wrong usage or an input or output error. A refusal prints\n"
+	"`refused N` (station: in the line of each call) and, on standard error, the file, the rule and\n"
+	"the values that decided; nothing is written to OUT then. The refusals:\n"
 	"\n";

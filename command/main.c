@@ -20,11 +20,13 @@ static void hold_standard_files(void)
 		close(opened);
 }
 
-/* A full pipe or file size limit gives an error to report, not a sudden end. */
-static void ignore_signals(void)
+/* A full pipe or file size limit gives an error to report, not a sudden end; what a program that was
+   started came to is kept for us, whoever started us. */
+static void set_signals(void)
 {
 	signal(SIGPIPE, SIG_IGN);
 	signal(SIGXFSZ, SIG_IGN);
+	signal(SIGCHLD, SIG_DFL);
 }
 
 /* Standard output to its end; 0 or the error's number. After an early error nothing may be left to
@@ -42,7 +44,7 @@ int main(int count, char **word)
 {
 	static char line[4096];
 	hold_standard_files();
-	ignore_signals();
+	set_signals();
 	setvbuf(stderr, line, _IOLBF, sizeof line);
 	const enum status status = run_command(count - 1, word + 1);
 	const int reason = close_output();

@@ -2,16 +2,21 @@
 #include "messages.h"
 
 #include <errno.h>
-#include <stdio.h>
 #include <string.h>
 
 /* A name as it was given, a control character as `?`: no file's name makes a line of its own. */
-void say_name(const char *name)
+void put_name(FILE *to, const char *name)
 {
 	for (; *name != 0; name++) {
 		const unsigned char c = (unsigned char)*name;
-		fputc(c < 32 || c == 127 ? '?' : c, stderr);
+		fputc(c < 32 || c == 127 ? '?' : c, to);
 	}
+}
+
+/* The same in a message. */
+void say_name(const char *name)
+{
+	put_name(stderr, name);
 }
 
 /* An input or output error, with the system's reason. */

@@ -2,11 +2,14 @@
 #ifndef COMMAND_MESSAGES_H
 #define COMMAND_MESSAGES_H
 
+#include <stdio.h>
+
 #include "command.h"
 
 /* A reason of our own beside the system's: OUT is a device or the like. */
 #define NOT_REGULAR (-1)
 
+void put_name(FILE *to, const char *name);
 void say_name(const char *name);
 enum status fail_at(const char *name, int reason);
 enum status fail_answer(void);

@@ -35,6 +35,10 @@ static const struct known option_names[] = {
 	{ "--json", JSON, NULL },
 	{ "--owners", OWNERS, " has no LIST after it" },
 	{ "--owner", OWNER, " has no N after it" },
+	{ "--report", REPORT, " has no FILE after it" },
+	{ "--text", TEXT, " has no FILE after it" },
+	{ "--list", LIST, " has no FILE after it" },
+	{ "--reports", REPORTS, " has no FOLDER after it" },
 };
 
 #define OPTION_NAMES (sizeof option_names / sizeof option_names[0])
@@ -75,12 +79,25 @@ static void note(struct line *line, const char *before, const char *option, cons
 		line->fault = (struct fault){ before, option, after };
 }
 
+/* Where the value of an option goes. */
+static const char **place_of(struct options *options, unsigned option)
+{
+	switch (option) {
+	case OWNERS: return &options->owners;
+	case OWNER: return &options->owner;
+	case REPORT: return &options->report;
+	case TEXT: return &options->text;
+	case LIST: return &options->list;
+	default: return &options->reports;
+	}
+}
+
 /* The value of an option, after its `=` or as the next argument; how many arguments more it takes. */
 static int take_value(struct line *line, const struct known *known, char **argument)
 {
 	const char *inside = strchr(argument[0], '=');
 	const char *value = inside != NULL ? inside + 1 : argument[1];
-	const char **place = known->option == OWNERS ? &line->options.owners : &line->options.owner;
+	const char **place = place_of(&line->options, known->option);
 	if (inside == NULL && (value == NULL || is_dashed(value))) {
 		note(line, "", known->name, known->missing);
 		return 0;
@@ -125,6 +142,12 @@ static bool is_optional(const char *name)
 	return name[0] == '[';
 }
 
+/* A word that stands for one or more, as the usage has it. */
+static bool is_many(const char *name)
+{
+	return strstr(name, "..") != NULL;
+}
+
 /* Too few words, each that is missing by its name. */
 static enum status fail_missing(const struct command *command, int given)
 {
@@ -137,11 +160,37 @@ static enum status fail_missing(const struct command *command, int given)
 	return fail_usage(command->name, missing, "", count == 1 ? " is missing" : " are missing");
 }
 
-/* The subcommand with its words, of which there must be enough and no more. */
+/* Too few words where one of the names stands for several: which is missing can't be said. */
+static enum status fail_few(const struct command *command, int given)
+{
+	char after[80];
+	snprintf(after, sizeof after, " are wanted: %s %s %s, not %d", command->words[0],
+		 command->words[1], command->words[2], given);
+	return fail_usage(command->name, "three words or more", "", after);
+}
+
+/* A subcommand with a word that stands for one or more. */
+static enum status run_with_many(const struct command *command, char **word,
+				 const struct options *options)
+{
+	int given = 0;
+	while (word[given] != NULL)
+		given++;
+	return given < 3 ? fail_few(command, given) : command->run(word, options);
+}
+
+/* The subcommand with its words, of which there must be enough and no more; with a list there are
+   none. */
 static enum status run_with(const struct command *command, const struct line *line)
 {
 	char **word = line->word + count_words(command);
 	int given = 0;
+	if ((line->options.given & LIST) != 0)
+		return word[0] == NULL ? command->run(word, &line->options)
+				       : fail_usage(command->name, "with --list no file is named: \"",
+						    word[0], "\"");
+	if (command->words[1] != NULL && is_many(command->words[1]))
+		return run_with_many(command, word, &line->options);
 	while (command->words[given] != NULL && word[given] != NULL)
 		given++;
 	if (command->words[given] != NULL && !is_optional(command->words[given]))

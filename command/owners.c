@@ -132,20 +132,25 @@ void free_owners(struct owners *owners)
 	*owners = (struct owners){ .name = owners->name };
 }
 
-/* A list of either form; false after a message. */
+/* A list of either form from a file in memory, which it takes over; false after a message. */
+bool take_owners(const char *name, struct bytes *file, struct owners *owners)
+{
+	*owners = (struct owners){ .name = name };
+	if (file->length > 0 && memchr(file->at, 0, file->length) != NULL) {
+		owners->list = *file;
+		return true;
+	}
+	const bool taken = end_text(name, file) && take_text(owners, file);
+	free(file->at);
+	if (!taken)
+		free_owners(owners);
+	return taken;
+}
+
+/* The same from a file by its name. */
 bool load_owners(const char *name, struct owners *owners)
 {
 	struct bytes file;
 	*owners = (struct owners){ .name = name };
-	if (!load(name, &file))
-		return false;
-	if (file.length > 0 && memchr(file.at, 0, file.length) != NULL) {
-		owners->list = file;
-		return true;
-	}
-	const bool taken = end_text(name, &file) && take_text(owners, &file);
-	free(file.at);
-	if (!taken)
-		free_owners(owners);
-	return taken;
+	return load(name, &file) && take_owners(name, &file, owners);
 }

@@ -20,6 +20,7 @@ struct owned {
 };
 
 bool load_owners(const char *name, struct owners *owners);
+bool take_owners(const char *name, struct bytes *file, struct owners *owners);
 void free_owners(struct owners *owners);
 size_t count_ranges(const struct bytes *list);
 struct owned range_at(const struct bytes *list, size_t index);

@@ -9,7 +9,7 @@ _pajurenda_word()
 	sheet:0) echo sheets ;;
 	owners:0) echo lists ;;
 	release:2) echo bases ;;
-	read:0 | release:[013] | setting:0 | audit:[01] | handoff:0 | station:0) echo files ;;
+	read:0 | release:[013] | setting:0 | audit:[01] | verify:* | handoff:0 | station:0) echo files ;;
 	sheet\ empty:[01] | sheet\ make:[012] | sheet\ show:[01] | owners\ all:[01] | owners\ show:[01]) echo files ;;
 	*) echo nothing ;;
 	esac
@@ -20,9 +20,10 @@ _pajurenda_options()
 {
 	case $1 in
 	'') echo '--help --version' ;;
-	read) echo '--words --help' ;;
-	audit) echo '--bytes --ranges --help' ;;
-	handoff) echo '--json --help' ;;
+	read) echo '--words --json --help' ;;
+	audit) echo '--bytes --ranges --json --report --text --list --reports --help' ;;
+	verify) echo '--owners --owner --json --report --text --list --reports --help' ;;
+	handoff | sheet\ show) echo '--json --help' ;;
 	release) echo '--owners --owner --help' ;;
 	*) echo '--help' ;;
 	esac
@@ -45,7 +46,7 @@ _pajurenda_kind()
 {
 	case $value:$ended$current in
 	--owner:*) echo numbers ;;
-	--owners:*) echo files ;;
+	--owners:* | --report:* | --text:* | --list:* | --reports:*) echo files ;;
 	:-*) echo options ;;
 	*) _pajurenda_word "$command" "$words" ;;
 	esac
@@ -60,7 +61,7 @@ _pajurenda_pass()
 	fi
 	case $ended$1 in
 	--) ended=yes ;;
-	--owners | --owner) value=$1 ;;
+	--owners | --owner | --report | --text | --list | --reports) value=$1 ;;
 	-?*) ;;
 	*) _pajurenda_take "$1" ;;
 	esac
@@ -77,8 +78,8 @@ _pajurenda()
 	case $(_pajurenda_kind) in
 	options) offered=$(_pajurenda_options "$command") ;;
 	numbers) offered='1 2' ;;
-	commands) offered='read release sheet owners setting audit handoff station help' ;;
-	topics) offered='read release sheet owners setting audit handoff station' ;;
+	commands) offered='read release sheet owners setting audit verify handoff station help' ;;
+	topics) offered='read release sheet owners setting audit verify handoff station' ;;
 	sheets) offered='empty make show' ;;
 	lists) offered='all show' ;;
 	bases) offered='keep' ;;

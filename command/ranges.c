@@ -1,48 +1,18 @@
 /*
- * The audit's list as ranges: neighbouring positions of one kind in one line, cut where the place
- * they lie in changes. The kinds are the library's; the places are the vendor image's reading.
+ * The audit's list as ranges: neighbouring positions of one kind, cut where the place they lie in
+ * changes. The kinds are the library's; the places are the vendor image's reading.
  */
 #include "ranges.h"
 
 #include <errno.h>
 #include <inttypes.h>
-#include <stdbool.h>
 #include <stdio.h>
 #include <stdlib.h>
 
+#include "letters.h"
 #include "messages.h"
-#include "pajurenda.h"
+#include "show.h"
 #include "words.h"
-
-/* Where a position lies. */
-enum room { BASE_WORD, PATCH_WORD, TABLES, REGION_HEADER, SETTINGS, ELSEWHERE };
-
-/* A room; for a patch word with its index. */
-struct lying {
-	enum room room;
-	uint64_t index;
-};
-
-/* A patch word's position and index. */
-struct spot {
-	uint64_t at;
-	uint64_t index;
-};
-
-/* The vendor image's rooms; its patch words in order of position, of which some are passed. */
-struct map {
-	uint64_t header, end, base, region;
-	struct spot *words;
-	uint64_t count;
-	uint64_t passed;
-};
-
-/* Positions of one kind in a row. */
-struct range {
-	bool stray;
-	uint64_t first, last;
-	struct lying where;
-};
 
 /* ---- where a position lies ---- */
 
@@ -93,68 +63,137 @@ static struct lying find_room(struct map *map, uint64_t at)
 	return (struct lying){ ELSEWHERE, 0 };
 }
 
-/* The i-th place as a range of one; the library says which is a setting. */
-static struct range range_of(struct map *map, const uint8_t *places, uint64_t i)
+/* What the sheets make of a setting; nothing in an audit. */
+static struct settled settled_at(const struct ranges *ranges, uint64_t at)
 {
-	const uint32_t place = pajurenda_place(places, (size_t)i);
-	const uint64_t at = pajurenda_position(place);
-	const bool stray = pajurenda_is_stray(place) != 0;
-	const struct lying settings = { SETTINGS, 0 };
-	return (struct range){ .stray = stray, .first = at, .last = at,
-			       .where = stray ? find_room(map, at) : settings };
+	const struct check *check = ranges->check;
+	const uint64_t size = pajurenda_field(check->reading, PAJURENDA_READ_SIZE);
+	const uint64_t offset = at - ranges->map.region;
+	if (check->settled == NULL || offset >= size)
+		return (struct settled){ .sheet = 0 };
+	return check->settled[offset];
 }
 
-/* ---- the lines ---- */
+/* The i-th place as a range of one; the library says which is a setting. */
+static struct range range_of(struct ranges *ranges, uint64_t i)
+{
+	const uint32_t place = pajurenda_place(ranges->check->found.places, (size_t)i);
+	const uint64_t at = pajurenda_position(place);
+	struct range range = { .stray = pajurenda_is_stray(place) != 0, .first = at, .last = at,
+			       .where = { SETTINGS, 0 } };
+	if (range.stray)
+		range.where = find_room(&ranges->map, at);
+	else
+		range.set = settled_at(ranges, at);
+	return range;
+}
+
+/* ---- one after the other ---- */
 
 /* The one goes on where the other ends. */
 static bool goes_on(const struct range *one, const struct range *next)
 {
 	return next->first == one->last + 1 && next->stray == one->stray &&
-	       next->where.room == one->where.room && next->where.index == one->where.index;
+	       next->where.room == one->where.room && next->where.index == one->where.index &&
+	       next->set.sheet == one->set.sheet && next->set.entry == one->set.entry &&
+	       next->set.changed == one->set.changed;
 }
 
-/* One line: kind, first and last position, length, and where it lies. */
-static void show_range(const struct map *map, const struct range *range)
+/* The list of a check that the library has accepted, from its start. */
+enum status start_ranges(struct ranges *ranges, const struct check *check)
+{
+	*ranges = (struct ranges){ .check = check, .map = map_rooms(check->reading),
+				   .count = differences(&check->found) };
+	if (!map_words(&check->vendor.bytes, check->reading, &ranges->map))
+		return fail_at("list of patch words", ENOMEM);
+	return FINE;
+}
+
+/* The next range; false after the last. */
+bool next_range(struct ranges *ranges, struct range *range)
+{
+	if (ranges->next == ranges->count)
+		return false;
+	*range = range_of(ranges, ranges->next++);
+	while (ranges->next < ranges->count) {
+		const struct range next = range_of(ranges, ranges->next);
+		if (!goes_on(range, &next))
+			break;
+		range->last = next.last;
+		ranges->next++;
+	}
+	return true;
+}
+
+/* From the start once more. */
+void again_ranges(struct ranges *ranges)
+{
+	ranges->next = 0;
+	ranges->map.passed = 0;
+}
+
+void end_ranges(struct ranges *ranges)
+{
+	free(ranges->map.words);
+}
+
+/* ---- shown ---- */
+
+uint64_t length_of(const struct range *range)
+{
+	return range->last - range->first + 1;
+}
+
+const char *name_room(enum room room)
 {
 	static const char *const names[] = { "base word", "patch word", "tables", "region header",
 					     "region offset", "elsewhere" };
-	printf("%c %" PRIu64 "..%" PRIu64 " length %" PRIu64 " %s", range->stray ? 'X' : 'S',
-	       range->first, range->last, range->last - range->first + 1, names[range->where.room]);
+	return names[room];
+}
+
+/* Kind, first and last position, length, and where it lies. */
+void put_place(FILE *to, const struct ranges *ranges, const struct range *range)
+{
+	fprintf(to, "%c %" PRIu64 "..%" PRIu64 " length %" PRIu64 " %s", range->stray ? 'X' : 'S',
+		range->first, range->last, length_of(range), name_room(range->where.room));
 	if (range->where.room == PATCH_WORD)
-		printf(" %" PRIu64, range->where.index);
+		fprintf(to, " %" PRIu64, range->where.index);
 	if (range->where.room == SETTINGS)
-		printf(" %" PRIu64, range->first - map->region);
-	putchar('\n');
+		fprintf(to, " %" PRIu64, range->first - ranges->map.region);
 }
 
-/* A line for each range until one can't be written. */
-static void show_lines(struct map *map, const uint8_t *places, uint64_t count)
+/* A range's bytes in a file, at most so many of them. */
+static void put_bytes(FILE *to, const struct bytes *file, const struct range *range, uint64_t most)
 {
-	struct range range = range_of(map, places, 0);
-	for (uint64_t i = 1; i < count && ferror(stdout) == 0; i++) {
-		const struct range next = range_of(map, places, i);
-		if (!goes_on(&range, &next)) {
-			show_range(map, &range);
-			range = next;
-		}
-		range.last = next.last;
+	const uint64_t count = length_of(range) < most ? length_of(range) : most;
+	if (!has_bytes(file, range->first, length_of(range)))
+		return;
+	show_hex(to, file->at + range->first, (size_t)count);
+	fputs(count < length_of(range) ? ".." : "", to);
+}
+
+/* Who sets a setting, and whether the file has what the maker delivered; of a verify alone. */
+static void put_setter(FILE *to, const struct check *check, const struct range *range)
+{
+	if (check->settled == NULL || range->stray)
+		return;
+	if (range->set.sheet == 0) {
+		fputs(", no sheet sets it", to);
+		return;
 	}
-	show_range(map, &range);
+	fputs(range->set.changed ? ", neither the sheet's nor the maker's" : ", still as the maker's", to);
+	fprintf(to, ", entry %" PRIu32 " of ", range->set.entry);
+	put_name(to, check->sheets[range->set.sheet - 1].name);
 }
 
-/* The whole list as ranges. */
-enum status show_ranges(const struct bytes *vendor, const uint8_t *places, uint64_t count)
+/* A range with both bytes, at most so many of them, and who sets it. */
+void put_range(FILE *to, const struct ranges *ranges, const struct range *range, uint64_t most)
 {
-	uint8_t reading[PAJURENDA_READ_BYTES] = { 0 };
-	if (count == 0)
-		return FINE;
-	if (pajurenda_read(vendor->at, vendor->length, reading, sizeof reading) !=
-	    PAJURENDA_ACCEPTED)
-		return fail_answer();
-	struct map map = map_rooms(reading);
-	if (!map_words(vendor, reading, &map))
-		return fail_at("list of patch words", ENOMEM);
-	show_lines(&map, places, count);
-	free(map.words);
-	return FINE;
+	put_place(to, ranges, range);
+	fputs(" should ", to);
+	put_bytes(to, &ranges->check->reference, range, most);
+	fputs(" is ", to);
+	put_bytes(to, &ranges->check->shipped.bytes, range, most);
+	put_setter(to, ranges->check, range);
+	fputc('\n', to);
 }

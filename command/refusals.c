@@ -9,6 +9,15 @@
 #include "pajurenda.h"
 #include "show.h"
 
+/* Standard output has another form for a refusal: a document, or a line of a list. */
+static bool kept;
+
+/* From here on a refusal's number is, or isn't, kept from standard output. */
+void keep_refusals(bool from_output)
+{
+	kept = from_output;
+}
+
 /* A file's length; no more is read of it than shows that it is too long. */
 void say_length(const struct bytes *file)
 {
@@ -29,10 +38,11 @@ void say_bytes(const struct bytes *file, uint64_t at, size_t count)
 		show_hex(stderr, file->at + at, count);
 }
 
-/* The number alone on standard output; the file, number and name on standard error. */
+/* The number alone on standard output, unless it is kept from there; the file, number and name on standard error. */
 void begin_refusal(uint32_t number, const char *name)
 {
-	printf("refused %" PRIu32 "\n", number);
+	if (!kept)
+		printf("refused %" PRIu32 "\n", number);
 	say_name(name);
 	fprintf(stderr, ": refused %" PRIu32 " %s: ", number, pajurenda_name(number));
 }

@@ -2,6 +2,8 @@
 #ifndef COMMAND_REFUSALS_H
 #define COMMAND_REFUSALS_H
 
+#include <stdbool.h>
+
 #include "command.h"
 
 /* A file as the user named it, with its bytes. */
@@ -19,6 +21,7 @@ struct asked {
 
 struct owners;
 
+void keep_refusals(bool from_output);
 void say_length(const struct bytes *file);
 void say_bytes(const struct bytes *file, uint64_t at, size_t count);
 void begin_refusal(uint32_t number, const char *name);

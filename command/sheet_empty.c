@@ -10,13 +10,13 @@
 static enum status save_empty(struct named *image, const char *out)
 {
 	uint8_t reading[PAJURENDA_READ_BYTES] = { 0 };
-	uint8_t empty[PAJURENDA_EMPTY_SHEET];
+	uint8_t empty[PAJURENDA_EMPTY_SHEET], answer[PAJURENDA_RELEASE_BYTES];
 	const struct bytes sheet = { .at = empty, .length = sizeof empty };
 	const uint32_t number = pajurenda_read(image->bytes.at, image->bytes.length, reading,
 					       sizeof reading);
 	if (number != PAJURENDA_ACCEPTED)
 		return refuse_image(number, pajurenda_field(reading, PAJURENDA_READ_INDEX), image);
-	if (!move_alone(&image->bytes, pajurenda_field(reading, PAJURENDA_READ_BASE)))
+	if (!move_alone(&image->bytes, pajurenda_field(reading, PAJURENDA_READ_BASE), answer))
 		return fail_answer();
 	pajurenda_empty_sheet(reading, empty);
 	return save_sheet(out, &sheet);

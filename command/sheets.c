@@ -89,10 +89,11 @@ enum status save_sheet(const char *out, const struct bytes *sheet)
 	return FINE;
 }
 
-/* An image moved with its empty sheet; false where the library does not take it. */
-bool move_alone(struct bytes *image, uint64_t base)
+/* An image moved with its empty sheet, by an answer of PAJURENDA_RELEASE_BYTES; false where the library
+   does not take it. */
+bool move_alone(struct bytes *image, uint64_t base, uint8_t *answer)
 {
-	uint8_t reading[PAJURENDA_READ_BYTES] = { 0 }, answer[PAJURENDA_RELEASE_BYTES] = { 0 };
+	uint8_t reading[PAJURENDA_READ_BYTES] = { 0 };
 	uint8_t empty[PAJURENDA_EMPTY_SHEET];
 	const struct bytes sheet = { .at = empty, .length = sizeof empty };
 	if (pajurenda_read(image->at, image->length, reading, sizeof reading) != PAJURENDA_ACCEPTED)

@@ -36,6 +36,6 @@ void put_number(uint8_t *at, size_t width, uint64_t value);
 struct bytes lay_out(struct draft *draft);
 void show_head(const uint8_t *judged, const char *before);
 enum status save_sheet(const char *out, const struct bytes *sheet);
-bool move_alone(struct bytes *image, uint64_t base);
+bool move_alone(struct bytes *image, uint64_t base, uint8_t *answer);
 
 #endif

@@ -18,25 +18,39 @@ offers() {
 	count=$((count + 1))
 }
 
-offers 'audit|handoff|help|owners|read|release|setting|sheet|station' ''
+offers 'audit|handoff|help|owners|read|release|setting|sheet|station|verify' ''
 offers 'audit' a
 offers 'read|release' r
 offers 'setting|sheet|station' s
 offers '--help|--version' -
 offers '--version' --v
-offers 'audit|handoff|owners|read|release|setting|sheet|station' help ''
+offers 'audit|handoff|owners|read|release|setting|sheet|station|verify' help ''
 offers '' help sheet ''
 offers '' help owners ''
 offers 'handoff|help' h
 offers '' help read ''
-offers '--help|--words' read -
-offers '--bytes|--help|--ranges' audit -
-offers '--ranges' audit image --r
-offers '--ranges' --bytes audit image --r
+offers '--help|--json|--words' read -
+offers '--bytes|--help|--json|--list|--ranges|--report|--reports|--text' audit -
+offers '--help|--json|--list|--owner|--owners|--report|--reports|--text' verify -
+offers '1|2' verify --owner ''
+offers 'a b|image' verify --owners ''
+offers 'a b|image' verify --report = ''
+offers '--ranges|--report|--reports' audit image --r
+offers '--ranges' --bytes audit image --ra
+offers 'a b|image' audit --report ''
+offers 'image' audit --report i
+offers 'a b|image' audit --report page ''
+offers 'a b|image' audit --report page image ''
+offers '' audit --report page image image ''
+offers 'a b|image' verify --list ''
+offers 'a b|image' verify image image image image ''
+offers 'a b|image' verify --text --report ''
+offers 'verify' v
 offers '--help|--json' handoff -
 offers '--help|--owner|--owners' release -
 offers '--help' sheet -
 offers '--help' sheet make -
+offers '--help|--json' sheet show -
 offers '--help' setting -
 offers 'a b|image' read ''
 offers 'image' read i

@@ -131,7 +131,8 @@ def own(pairs):
     assert len(keys) == len(set(keys)), keys
     return dict(pairs)
 document = json.load(sys.stdin, object_pairs_hook=own)
-assert list(document) == ["blocks", "number", "name", "place", "count"], list(document)
+assert list(document) == ["command", "file", "blocks", "number", "name", "place", "count"], list(document)
+assert document["command"] == "handoff"
 common = ["place", "type", "name", "length", "kind"]
 more = {"handoff": [], "end": [], "unknown": [], "guid": ["guid", "data_place", "data_length"],
         "resource": ["resource", "resource_name", "attributes", "start", "size", "last", "owner"]}
@@ -180,14 +181,14 @@ json_is() {
 try_json_text() {
 	{ first; resource 48 '\000\000\000\000\001\000\000\000\000\020\000\000\000\000\000\000\000\000\000\000\000\000\000\000'; end; } >"$i/small"
 	works 0 handoff --json "$i/small"
-	prints '{' '  "blocks": [' '    {"place": 0, "type": 1, "name": "HANDOFF", "length": 56, "kind": "handoff"},' \
+	prints '{' '  "command": "handoff",' "  \"file\": \"$i/small\"," '  "blocks": [' '    {"place": 0, "type": 1, "name": "HANDOFF", "length": 56, "kind": "handoff"},' \
 		"    {\"place\": 56, \"type\": 3, \"name\": \"RESOURCE_DESCRIPTOR\", \"length\": 48, \"kind\": \"resource\", \"resource\": 0, \
 \"resource_name\": \"SYSTEM_MEMORY\", \"attributes\": \"0x00000001\", \"start\": \"0x00001000\", \"size\": \"0x00000000\", \"last\": null, \
 \"owner\": \"$as_text\"}," \
 		'    {"place": 104, "type": 65535, "name": "END_OF_HOB_LIST", "length": 8, "kind": "end"}' '  ],' '  "number": 0,' \
 		'  "name": "ACCEPTED",' '  "place": 104,' '  "count": 3' '}'
 	try 2 handoff --json "$work/empty"
-	prints '{' '  "blocks": [],' '  "number": 32,' '  "name": "NOTHING",' '  "place": 0,' '  "count": 0' '}'
+	prints '{' '  "command": "handoff",' "  \"file\": \"$work/empty\"," '  "blocks": [],' '  "number": 32,' '  "name": "NOTHING",' '  "place": 0,' '  "count": 0' '}'
 	says "$work/empty: refused 32 NOTHING at 0: $rule_nothing: the file has 0 bytes"
 }
 
@@ -379,8 +380,8 @@ try_handoff_words() {
 	fails_with "pajurenda: handoff: one word too many: \"b\" $see_handoff" handoff "$i/kinds" b
 	fails_with "pajurenda: handoff: takes no option --bytes $see_handoff" handoff --bytes "$i/kinds"
 	fails_with "pajurenda: handoff: unknown option --jason $see_handoff" handoff --jason "$i/kinds"
-	fails_with 'pajurenda: read: takes no option --json (see pajurenda read --help)' read --json "$vendor"
-	fails_with 'pajurenda: audit: takes no option --json (see pajurenda audit --help)' audit "$vendor" "$shipped" --json
+	fails_with 'pajurenda: setting: takes no option --json (see pajurenda setting --help)' setting --json "$vendor" 40 2
+	fails_with 'pajurenda: sheet make: takes no option --json (see pajurenda sheet make --help)' sheet make a b c --json
 }
 
 try_handoff_files() {

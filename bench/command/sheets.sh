@@ -229,12 +229,15 @@ try_shown_path() {
 	# shellcheck disable=SC2016
 	sed -n 's/^`settings.txt` may be as short as `\([^`]*\)`.*/\1/p' "$root/README.md" >"$work/path/settings.txt"
 	sed -n 's/^    pajurenda //p' "$root/README.md" >"$work/path_lines"
-	[ "$(wc -l <"$work/path_lines")" -eq 6 ] || fail "not six lines in the README"
+	[ "$(wc -l <"$work/path_lines")" -eq 7 ] || fail "not seven lines in the README"
 	cd "$work/path"
 	while read -r words; do
 		# shellcheck disable=SC2086
 		works 0 $words
 	done <"$work/path_lines"
+	prints 'verdict as released' 'base 0x00512000' 'move -4289126400' 'sheet 1 entries 1 settings.sheet' 'settings 0' 'strays 0' 'bits 0'
+	[ -s shipped.html ] || fail "no page"
+	works 0 audit --ranges vendor.bin shipped.bin
 	prints 'base 0x00512000' 'settings 1' 'strays 0' 'bits 2' 'S 4137..4137 length 1 region offset 41' 'verdict explained'
 	printf 'TREAT-01\004\003\002\001\002\000\000\000\050\000\000\000\002\000\040\000\140\000\000\000\002\000\042\000\001\000\377\356' >wanted
 	sed -n 's/^    \([^ ]\)/\1/p' "$work/help.sheet" >text

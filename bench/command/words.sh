@@ -14,9 +14,9 @@ help_is() {
 try_help() {
 	works 0 --help
 	cp "$work/out" "$work/help.all"
-	for word in read release 'sheet empty' 'sheet make' 'sheet show' 'owners all' 'owners show' setting audit handoff station help --words --bytes --ranges \
-		--json --owners --owner --version 'Exit status' ' 20  ROOM' ' 22  RESERVED' ' 23  OWNERS' ' 24  OWNER' '1 to 12, 22, 13, 14' \
-		'15, 23, 16, 17, 24' ' 33  KIND' ' 40  ORDER' ' 41  UNKNOWN'; do
+	for word in read release 'sheet empty' 'sheet make' 'sheet show' 'owners all' 'owners show' setting audit verify handoff station help --words --bytes \
+		--ranges --json --report --text --list --reports --owners --owner --version 'Exit status' ' 20  ROOM' ' 22  RESERVED' ' 23  OWNERS' ' 24  OWNER' \
+		'1 to 12, 22, 13, 14' '15, 23, 16, 17, 24' ' 33  KIND' ' 40  ORDER' ' 41  UNKNOWN'; do
 		grep -qF -e "$word" "$work/out" || fail "the help does not speak of $word"
 		passed
 	done
@@ -24,7 +24,7 @@ try_help() {
 		# shellcheck disable=SC2086
 		help_is all $words
 	done
-	for name in read release sheet owners setting audit handoff station; do
+	for name in read release sheet owners setting audit verify handoff station; do
 		works 0 help "$name"
 		cp "$work/out" "$work/help.$name"
 		[ "$(head -n 1 "$work/out" | cut -d ' ' -f 1-3)" = "usage: pajurenda $name" ] || fail "no usage first"
@@ -41,7 +41,14 @@ try_help() {
 		grep -qF -e 'extended number' "$work/help.$name" || fail "$name's help has no extended number"
 	done
 	grep -qF -e --ranges "$work/help.audit" || fail "audit's help has no --ranges"
-	grep -qF -e --json "$work/help.handoff" || fail "handoff's help has no --json"
+	for name in read sheet audit verify handoff; do
+		grep -qF -e --json "$work/help.$name" || fail "$name's help has no --json"
+	done
+	for word in --report --text --list --reports; do
+		grep -qF -e "$word" "$work/help.audit" || fail "audit's help has no $word"
+		grep -qF -e "$word" "$work/help.verify" || fail "verify's help has no $word"
+	done
+	for word in --owners --owner; do grep -qF -e "$word" "$work/help.verify" || fail "verify's help has no $word"; done
 	for word in --owners --owner 'owners all'; do grep -qF -e "$word" "$work/help.release" || fail "release's help has no $word"; done
 }
 
@@ -211,8 +218,8 @@ try_two_words() {
 	fails_with 'pajurenda: sheet make: one word too many: "d" (see pajurenda sheet make --help)' sheet make a b c d
 	fails_with 'pajurenda: sheet show: SHEET is missing (see pajurenda sheet show --help)' sheet show
 	fails_with 'pajurenda: sheet show: one word too many: "c" (see pajurenda sheet show --help)' sheet show a b c
-	fails_with 'pajurenda: sheet show: takes no option --json (see pajurenda sheet show --help)' sheet --json show a
-	fails_with 'pajurenda: sheet show: unknown option --text (see pajurenda sheet show --help)' sheet show a --text
+	fails_with 'pajurenda: sheet show: takes no option --words (see pajurenda sheet show --help)' sheet --words show a
+	fails_with 'pajurenda: sheet show: unknown option --texts (see pajurenda sheet show --help)' sheet show a --texts
 	fails_with 'pajurenda: --json: No such file or directory' sheet show -- --json
 	works 0 sheet -- show "$work/sheet"
 	works 0 -- sheet show "$work/sheet" "$vendor"

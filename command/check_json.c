@@ -1,0 +1,130 @@
+/* audit --json and verify --json: the whole check as one document. */
+#include <inttypes.h>
+#include <stdio.h>
+
+#include "checking.h"
+#include "json.h"
+#include "letters.h"
+#include "ranges.h"
+#include "signs.h"
+
+/* A range's bytes in a file. */
+static void write_bytes(const char *name, const struct bytes *file, const struct range *range)
+{
+	printf(", \"%s\": ", name);
+	if (has_bytes(file, range->first, length_of(range)))
+		json_bytes(file->at + range->first, length_of(range));
+	else
+		fputs("null", stdout);
+}
+
+/* Of a verify: which entry sets a setting, and whether the file has the maker's bytes. */
+static void write_setter(const struct range *range)
+{
+	fputs(", \"set_by\": ", stdout);
+	if (range->stray || range->set.sheet == 0)
+		fputs("null", stdout);
+	else
+		printf("{\"sheet\": %" PRIu32 ", \"entry\": %" PRIu32 "}", range->set.sheet - 1,
+		       range->set.entry);
+	printf(", \"makers\": %s", !range->stray && !range->set.changed ? "true" : "false");
+}
+
+/* The same members for every range; offset and index are null where the place has none. */
+static void write_range(const struct ranges *ranges, const struct range *range, const char *before)
+{
+	const struct check *check = ranges->check;
+	printf("%s\n    {\"kind\": \"%s\", \"first\": %" PRIu64 ", \"last\": %" PRIu64, before,
+	       range->stray ? "stray" : "setting", range->first, range->last);
+	printf(", \"length\": %" PRIu64 ", \"place\": \"%s\", \"offset\": ", length_of(range),
+	       range->where.room == SETTINGS ? "settings" : name_room(range->where.room));
+	if (range->where.room == SETTINGS)
+		printf("%" PRIu64, range->first - ranges->map.region);
+	else
+		fputs("null", stdout);
+	if (range->where.room == PATCH_WORD)
+		printf(", \"index\": %" PRIu64, range->where.index);
+	else
+		fputs(", \"index\": null", stdout);
+	write_bytes("should", &check->reference, range);
+	write_bytes("is", &check->shipped.bytes, range);
+	if (check->verify)
+		write_setter(range);
+	putchar('}');
+}
+
+/* Every range, until one can't be written. */
+static enum status write_ranges(const struct check *check)
+{
+	struct ranges ranges;
+	struct range range;
+	const char *before = "";
+	if (start_ranges(&ranges, check) != FINE)
+		return FAILED;
+	fputs(",\n  \"ranges\": [", stdout);
+	while (ferror(stdout) == 0 && next_range(&ranges, &range)) {
+		write_range(&ranges, &range, before);
+		before = ",";
+	}
+	end_ranges(&ranges);
+	printf("%s]", *before == 0 ? "" : "\n  ");
+	return FINE;
+}
+
+/* The sheets by name, in the order they were applied. */
+static void write_sheets(const struct check *check)
+{
+	fputs(",\n  \"sheets\": [", stdout);
+	for (size_t i = 0; i < check->sheet_count; i++) {
+		fputs(i == 0 ? "\n    {\"file\": " : ",\n    {\"file\": ", stdout);
+		put_json_text(stdout, check->sheets[i].name);
+		printf(", \"length\": %zu", check->sheets[i].bytes.length);
+		if (check->number == PAJURENDA_ACCEPTED)
+			printf(", \"entries\": %" PRIu64, number_at(&check->sheets[i].bytes, 12, 2));
+		putchar('}');
+	}
+	fputs("\n  ]", stdout);
+}
+
+/* The owner list, and who released by it; null where none was named. */
+static void write_owner(const struct check *check)
+{
+	json_text("owners", check->list.name);
+	if (check->list.name != NULL)
+		json_number("owner", check->owner);
+	else
+		json_text("owner", NULL);
+}
+
+/* What an accepted check found. */
+static enum status write_found(const struct check *check)
+{
+	json_hex("base", 8, count_of(check, PAJURENDA_AUDIT_BASE));
+	printf(",\n  \"move\": %" PRId64,
+	       pajurenda_signed_field(check->moved, PAJURENDA_RELEASE_MOVE));
+	json_number("settings", count_of(check, PAJURENDA_AUDIT_SETTINGS));
+	json_number("strays", count_of(check, PAJURENDA_AUDIT_STRAYS));
+	json_number("bits", count_of(check, PAJURENDA_AUDIT_BITS));
+	return write_ranges(check);
+}
+
+/* The whole document, of a refused check too. */
+enum status write_check(const struct check *check)
+{
+	const bool refused = check->number != PAJURENDA_ACCEPTED;
+	begin_json(check->verify ? "verify" : "audit");
+	json_text("vendor", check->vendor.name);
+	if (check->verify) {
+		write_sheets(check);
+		write_owner(check);
+	}
+	json_text("shipped", check->shipped.name);
+	json_answer(check->number, check->index);
+	if (refused)
+		json_text("refused", check->refused->name);
+	else if (write_found(check) != FINE)
+		return FAILED;
+	json_text("verdict", verdict_of(check));
+	end_json();
+	return refused ? FAILED : is_good(check) ? FINE : UNEXPLAINED;
+}

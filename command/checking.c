@@ -1,0 +1,164 @@
+/* One check, from its words to all that is told and written of it. */
+#define _XOPEN_SOURCE 700
+
+#include "checking.h"
+
+#include <errno.h>
+#include <stdio.h>
+#include <stdlib.h>
+#include <string.h>
+
+#include "files.h"
+#include "messages.h"
+#include "numbers.h"
+#include "page.h"
+#include "ranges.h"
+
+/* ---- the files to write ---- */
+
+static const char *command_of(const struct check *check)
+{
+	return check->verify ? "verify" : "audit";
+}
+
+/* A file to write is none of those read; false after a message. */
+bool is_apart(const struct check *check, const char *out)
+{
+	const char *input = NULL;
+	if (out == NULL)
+		return true;
+	for (size_t i = 0; i < check->sheet_count; i++)
+		if (is_same_file(check->sheets[i].name, out))
+			input = "a SHEET";
+	if (check->list.name != NULL && is_same_file(check->list.name, out))
+		input = "LIST";
+	if (is_same_file(check->vendor.name, out))
+		input = "VENDOR";
+	if (is_same_file(check->shipped.name, out))
+		input = "SHIPPED";
+	if (input == NULL)
+		return true;
+	fail_usage(command_of(check), "the file to write is ", input, " itself, which would be lost");
+	return false;
+}
+
+/* The same of both, which are two files. */
+static bool are_apart(const struct check *check, const struct options *options)
+{
+	const char *report = options->report, *text = options->text;
+	if (report != NULL && text != NULL &&
+	    (strcmp(report, text) == 0 || is_same_file(report, text))) {
+		fail_usage(command_of(check), "--report and --text name one file", "", "");
+		return false;
+	}
+	return is_apart(check, report) && is_apart(check, text);
+}
+
+/* Every range with all its bytes, a line each. */
+static enum status write_ranges(FILE *to, const struct check *check)
+{
+	struct ranges ranges;
+	struct range range;
+	if (start_ranges(&ranges, check) != FINE)
+		return FAILED;
+	while (next_range(&ranges, &range))
+		put_range(to, &ranges, &range, UINT64_MAX);
+	end_ranges(&ranges);
+	return FINE;
+}
+
+/* The whole list as a text in memory of its own; false after a message. */
+static bool make_text(const struct check *check, struct named *text)
+{
+	char *at = NULL;
+	size_t length = 0;
+	FILE *to = open_memstream(&at, &length);
+	if (to == NULL) {
+		fail_no_memory(text->name);
+		return false;
+	}
+	const enum status status = write_ranges(to, check);
+	const bool whole = ferror(to) == 0;
+	const bool closed = fclose(to) == 0;
+	text->bytes = (struct bytes){ .at = (uint8_t *)at, .length = length };
+	if (status == FINE && (!whole || !closed))
+		fail_no_memory(text->name);
+	return status == FINE && whole && closed;
+}
+
+/* The page, after the whole list where that was asked for; of a refused check the page alone. */
+static bool save_outs(const struct check *check, const struct options *options)
+{
+	struct named text = { .name = options->text };
+	const bool list = options->text != NULL && check->number == PAJURENDA_ACCEPTED;
+	bool saved = !list || (make_text(check, &text) && save(text.name, &text.bytes));
+	if (saved && options->report != NULL)
+		saved = save_page(check, options->report, list ? &text : NULL);
+	free(text.bytes.at);
+	return saved;
+}
+
+/* ---- one check ---- */
+
+/* A loaded check judged, its files written, then its lines or its document. */
+static enum status tell_check(struct check *check, const struct options *options)
+{
+	const enum status judged = judge(check);
+	if (judged != FINE && check->number == PAJURENDA_ACCEPTED)
+		return FAILED;
+	if (!save_outs(check, options))
+		return FAILED;
+	if ((options->given & JSON) != 0)
+		return write_check(check);
+	if (judged != FINE)
+		return FAILED;
+	return check->verify ? show_verify(check) : show_audit(check, options->given);
+}
+
+static enum status run_one(bool verify, char **word, const struct options *options)
+{
+	struct check check;
+	enum status status = FAILED;
+	keep_refusals((options->given & JSON) != 0);
+	if (load_check(&check, verify, word, options) && are_apart(&check, options))
+		status = tell_check(&check, options);
+	end_check(&check);
+	return status;
+}
+
+/* ---- the words ---- */
+
+/* Two options that can't stand together; NULL where there is none. */
+static const char *find_clash(unsigned options)
+{
+	const unsigned forms = options & (BYTES | RANGES | JSON);
+	if (forms == (BYTES | RANGES))
+		return "--bytes and --ranges exclude each other";
+	if ((forms & (forms - 1)) != 0)
+		return "--json has both bytes and ranges: no other form goes with it";
+	if ((options & (OWNERS | OWNER)) == OWNERS)
+		return "--owner N is missing: who released by LIST, 1 or 2";
+	if ((options & (OWNERS | OWNER)) == OWNER)
+		return "--owners LIST is missing: whose each setting is; without both every setting is owner 1's";
+	if ((options & (LIST | REPORTS)) == REPORTS)
+		return "--reports goes with --list; of one pair --report FILE is the page";
+	if ((options & LIST) == 0)
+		return NULL;
+	if ((options & (REPORT | TEXT)) != 0)
+		return "with --list the pages go to a folder: --reports FOLDER";
+	return forms != 0 ? "--list has a line for each pair: no other form goes with it" : NULL;
+}
+
+/* audit or verify, of one pair or of a list of them. */
+enum status run_checks(bool verify, char **word, const struct options *options)
+{
+	const char *clash = find_clash(options->given);
+	uint64_t owner;
+	if (clash != NULL)
+		return fail_usage(verify ? "verify" : "audit", clash, "", "");
+	if (options->owner != NULL && !take_number("verify", "--owner", options->owner, &owner))
+		return FAILED;
+	if ((options->given & LIST) != 0)
+		return run_list(verify, options);
+	return run_one(verify, word, options);
+}

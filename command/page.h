@@ -1,0 +1,42 @@
+/* The page to file: a check as one HTML file, without a script, with nothing to fetch. */
+#ifndef COMMAND_PAGE_H
+#define COMMAND_PAGE_H
+
+#include <stdio.h>
+
+#include "checked.h"
+#include "ranges.h"
+
+/* A page that is being written; the text is the whole list, NULL where none was made. */
+struct page {
+	FILE *to;
+	const struct check *check;
+	const struct named *text;
+};
+
+/* How many bytes of each kind differ, and how many ranges they are. */
+struct tally {
+	uint64_t ranges;
+	uint64_t sheets, makers; /* that a sheet sets; of these still as the maker's */
+	uint64_t others;         /* settings that no sheet sets */
+	uint64_t strays;
+};
+
+bool save_page(const struct check *check, const char *name, const struct named *text);
+
+/* Its parts, each in a file of its own; false where there is no memory. */
+void put_style(FILE *to);
+void put_verdict(const struct page *page, const struct tally *tally);
+void put_files(const struct page *page);
+void put_facts(const struct page *page);
+void put_words(const struct page *page);
+bool put_maps(const struct page *page);
+bool put_ranges(const struct page *page, const struct tally *tally);
+void put_sheets(const struct page *page);
+
+/* Small ones that all use. */
+bool take_tally(const struct check *check, struct tally *tally);
+void put_plural(FILE *to, uint64_t count, const char *one, const char *many);
+void put_cut_bytes(FILE *to, const struct bytes *file, uint64_t at, uint64_t length);
+
+#endif

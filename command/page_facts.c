@@ -1,0 +1,251 @@
+/* The page's verdict, its files, what the vendor's image says of itself, and the words that moved. */
+#include <inttypes.h>
+
+#include "digest.h"
+#include "page.h"
+#include "show.h"
+#include "signs.h"
+#include "words.h"
+
+/* How many patch words are listed. */
+#define MOST_WORDS ((uint64_t)64)
+
+/* ---- the verdict ---- */
+
+/* The verdict's sentence of an audit. */
+static void say_audit(const struct page *page)
+{
+	const uint64_t settings = count_of(page->check, PAJURENDA_AUDIT_SETTINGS);
+	const uint64_t strays = count_of(page->check, PAJURENDA_AUDIT_STRAYS);
+	FILE *to = page->to;
+	if (strays != 0) {
+		put_plural(to, strays, "byte differs", "bytes differ");
+		fputs(" outside the settings, and neither the move nor a setting accounts for ", to);
+		fputs(strays == 1 ? "it." : "them.", to);
+	} else if (settings == 0) {
+		fputs("Moved to the shipped base, the maker's image is the shipped file: "
+		      "no byte differs.", to);
+	} else {
+		put_plural(to, settings, "byte differs, and it is a setting.",
+			   "bytes differ, and every one is a setting.");
+		fputs(" All else is the maker's image, moved.", to);
+	}
+}
+
+/* The verdict's sentence of a verify. */
+static void say_verify(const struct page *page, const struct tally *tally)
+{
+	FILE *to = page->to;
+	if (is_good(page->check)) {
+		fputs("Byte for byte, the shipped file is what releasing the maker's image with the sheets "
+		      "below, in their order, to its base makes.", to);
+		return;
+	}
+	put_plural(to, differences(&page->check->found), "byte is", "bytes are");
+	fputs(" not what the release makes: ", to);
+	put_plural(to, tally->sheets, "in a setting that a sheet sets", "in settings that a sheet sets");
+	fprintf(to, " (%" PRIu64 " still as the maker's), ", tally->makers);
+	put_plural(to, tally->others, "in a setting that no sheet sets", "in settings that no sheet sets");
+	fprintf(to, ", %" PRIu64 " outside the settings.", tally->strays);
+}
+
+/* A refusal: number, name, rule and file. */
+static void say_refusal(const struct page *page)
+{
+	const struct check *check = page->check;
+	fprintf(page->to, "Refusal %" PRIu32 " %s of ", check->number, pajurenda_name(check->number));
+	put_page_text(page->to, check->refused->name);
+	fputs(": ", page->to);
+	put_page_text(page->to, pajurenda_sentence(check->number));
+	if (pajurenda_has_index(check->number) != 0)
+		fprintf(page->to, "; patch entry %" PRIu64 ", counted from 0", check->index);
+	fputs(". Nothing was compared.", page->to);
+}
+
+/* In words, large; its kind also by the frame. */
+void put_verdict(const struct page *page, const struct tally *tally)
+{
+	const bool refused = page->check->number != PAJURENDA_ACCEPTED;
+	const bool good = is_good(page->check);
+	fprintf(page->to, "<section class=\"verdict %s\">\n<p class=\"word\">%s</p>\n<p>",
+		good ? "good" : "bad", verdict_of(page->check));
+	if (refused)
+		say_refusal(page);
+	else if (page->check->verify)
+		say_verify(page, tally);
+	else
+		say_audit(page);
+	fputs("</p>\n</section>\n", page->to);
+}
+
+/* ---- the files ---- */
+
+/* A digest by the system's tool, or that there is none. */
+static void put_digest(FILE *to, const struct bytes *bytes)
+{
+	char digits[DIGEST_DIGITS + 1];
+	fputs(find_digest(bytes, digits) ? digits
+					 : "not taken: the system's sha256sum could not be run", to);
+}
+
+/* A file's row: what it is here, its name, its length, its digest. Of a file that is longer than any
+   image no more was read than shows that. */
+static void put_file(FILE *to, const char *role, const struct named *file, bool whole)
+{
+	fprintf(to, "<tr><td>%s</td><td class=\"file\">", role);
+	put_page_text(to, file->name);
+	fputs("</td><td class=\"number\">", to);
+	if (whole)
+		fprintf(to, "%zu</td><td class=\"digest\">", file->bytes.length);
+	else
+		fprintf(to, "more than %d</td><td class=\"digest\">", PAJURENDA_MOST_IMAGE);
+	if (whole)
+		put_digest(to, &file->bytes);
+	else
+		fputs("not taken: the file is longer than any image and wasn't read to its end", to);
+	fputs("</td></tr>\n", to);
+}
+
+/* A file that was checked. */
+static void put_input(FILE *to, const char *role, const struct named *file)
+{
+	put_file(to, role, file, file->bytes.length <= PAJURENDA_MOST_IMAGE);
+}
+
+/* Every file, in the order of the words. */
+void put_files(const struct page *page)
+{
+	char role[40];
+	fputs("<section>\n<h2>Files</h2>\n<table class=\"files\">\n<thead><tr><th>What</th><th>Name</th>"
+	      "<th class=\"number\">Bytes</th><th>SHA-256 of these bytes</th></tr></thead>\n<tbody>\n",
+	      page->to);
+	put_input(page->to, "Maker's image", &page->check->vendor);
+	for (size_t i = 0; i < page->check->sheet_count; i++) {
+		snprintf(role, sizeof role, "Sheet %zu", i + 1);
+		put_input(page->to, role, &page->check->sheets[i]);
+	}
+	if (page->check->list.name != NULL) {
+		snprintf(role, sizeof role, "Owner list, %" PRIu64 " asks", page->check->owner);
+		put_input(page->to, role, &page->check->list);
+	}
+	put_input(page->to, "Shipped file", &page->check->shipped);
+	if (page->text != NULL)
+		put_file(page->to, "Whole list", page->text, true);
+	fputs("</tbody>\n</table>\n</section>\n", page->to);
+}
+
+/* ---- what it says of itself ---- */
+
+static void put_fact(FILE *to, const char *name, const char *value)
+{
+	fprintf(to, "<div><dt>%s</dt><dd>%s</dd></div>\n", name, value);
+}
+
+static void put_number(FILE *to, const char *name, const char *form, uint64_t value)
+{
+	char text[64];
+	snprintf(text, sizeof text, form, value);
+	put_fact(to, name, text);
+}
+
+/* The identity in hex, and as text where it is printable. */
+static void put_identity(FILE *to, const uint8_t *identity)
+{
+	char text[9] = "";
+	fputs("<div><dt>Identity</dt><dd>", to);
+	show_hex(to, identity, 8);
+	for (size_t i = 0; i < 8; i++)
+		text[i] = (char)identity[i];
+	if (is_printable(identity, 8)) {
+		fputs(" “", to);
+		put_page_text(to, text);
+		fputs("”", to);
+	}
+	fputs("</dd></div>\n", to);
+}
+
+/* What the vendor's image is. */
+static void put_image(FILE *to, const uint8_t *reading)
+{
+	static const char *const names[] = { "?", "T", "M", "S", "I" };
+	const uint64_t component = pajurenda_field(reading, PAJURENDA_READ_COMPONENT);
+	const uint64_t revision = pajurenda_field(reading, PAJURENDA_READ_REVISION);
+	const uint64_t extended = pajurenda_field(reading, PAJURENDA_READ_EXTENDED);
+	put_fact(to, "Component", names[component <= 4 ? component : 0]);
+	put_identity(to, pajurenda_identity(reading));
+	put_number(to, "Revision", "0x%08" PRIX64, revision);
+	put_number(to, "Extended number", "0x%04" PRIX64, extended);
+	fputs("<div><dt>Version</dt><dd>", to);
+	show_image_version(to, revision, extended);
+	fputs("</dd></div>\n", to);
+	put_number(to, "Base", "0x%08" PRIX64, pajurenda_field(reading, PAJURENDA_READ_BASE));
+	put_number(to, "FSP header at", "%" PRIu64, pajurenda_field(reading, PAJURENDA_READ_HEADER));
+	put_number(to, "Patch entries", "%" PRIu64, pajurenda_field(reading, PAJURENDA_READ_COUNT));
+	put_number(to, "Region at", "%" PRIu64, pajurenda_field(reading, PAJURENDA_READ_REGION));
+	put_number(to, "Region's bytes", "%" PRIu64, pajurenda_field(reading, PAJURENDA_READ_SIZE));
+}
+
+/* Where it was moved, and the counts. */
+void put_facts(const struct page *page)
+{
+	const struct check *check = page->check;
+	char move[40];
+	snprintf(move, sizeof move, "%+" PRId64,
+		 pajurenda_signed_field(check->moved, PAJURENDA_RELEASE_MOVE));
+	fputs("<section>\n<h2>What the maker's image says of itself</h2>\n<dl>\n", page->to);
+	put_image(page->to, check->reading);
+	fprintf(page->to, "</dl>\n</section>\n<section>\n<h2>The shipped file, against %s</h2>\n<dl>\n",
+		check->verify ? "the release" : "the maker's image moved");
+	put_number(page->to, "Base", "0x%08" PRIX64, count_of(check, PAJURENDA_AUDIT_BASE));
+	put_fact(page->to, "Move", move);
+	put_number(page->to, "Setting bytes that differ", "%" PRIu64,
+		   count_of(check, PAJURENDA_AUDIT_SETTINGS));
+	put_number(page->to, "Bits of them", "%" PRIu64, count_of(check, PAJURENDA_AUDIT_BITS));
+	put_number(page->to, "Stray bytes", "%" PRIu64,
+		   count_of(check, PAJURENDA_AUDIT_STRAYS));
+	fputs("</dl>\n<p class=\"note\">A setting is a byte of the configuration region after its header; "
+	      "a stray is any other byte that differs.</p>\n</section>\n", page->to);
+}
+
+/* ---- the words ---- */
+
+/* A word's row: in the maker's image, as the move makes it, and in the file. */
+static void put_word(const struct page *page, const char *name, const struct word *word)
+{
+	const struct bytes *files[] = { &page->check->vendor.bytes, &page->check->reference,
+					&page->check->shipped.bytes };
+	fprintf(page->to, "<tr><td>%s</td><td class=\"number\">%" PRIu64 "</td>", name, word->at);
+	for (size_t i = 0; i < 3 && word->there; i++)
+		fprintf(page->to, "<td class=\"bytes\">0x%08" PRIX64 "</td>",
+			pajurenda_number(files[i]->at + word->at, 4));
+	fputs("</tr>\n", page->to);
+}
+
+/* The patch words in the table's order, a long table cut with its count. */
+static void put_patch_words(const struct page *page, uint64_t count)
+{
+	char name[40];
+	for (uint64_t i = 0; i < count && i < MOST_WORDS; i++) {
+		const struct word word = patch_word(&page->check->vendor.bytes, page->check->reading, i);
+		snprintf(name, sizeof name, "patch word %" PRIu64, i);
+		put_word(page, name, &word);
+	}
+}
+
+/* The words that a move changes. */
+void put_words(const struct page *page)
+{
+	const uint64_t count = pajurenda_field(page->check->reading, PAJURENDA_READ_COUNT);
+	const struct word base = base_word(&page->check->vendor.bytes, page->check->reading);
+	fputs("<section>\n<h2>Words that the move changes</h2>\n<table class=\"words\">\n<thead><tr>"
+	      "<th>Word</th><th class=\"number\">At</th><th>Maker's</th><th>Should be</th><th>Is</th>"
+	      "</tr></thead>\n<tbody>\n", page->to);
+	put_word(page, "base word", &base);
+	put_patch_words(page, count);
+	fputs("</tbody>\n</table>\n", page->to);
+	if (count > MOST_WORDS)
+		fprintf(page->to, "<p class=\"note\">… and %" PRIu64 " more patch words; "
+			"<code>pajurenda read --words</code> on the maker's image lists all.</p>\n",
+			count - MOST_WORDS);
+	fputs("</section>\n", page->to);
+}

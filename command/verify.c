@@ -1,0 +1,56 @@
+/* verify VENDOR SHEET.. SHIPPED: is the shipped file the release of the vendor's image with these sheets? */
+#include <inttypes.h>
+#include <stdio.h>
+
+#include "checking.h"
+#include "letters.h"
+#include "messages.h"
+#include "ranges.h"
+
+/* How much of a range's bytes stands in a line; --text and --json have all. */
+#define MOST_SHOWN 16
+
+/* The sheets in the order they were applied, each with its count of entries. */
+static void show_sheets(const struct check *check)
+{
+	for (size_t i = 0; i < check->sheet_count; i++) {
+		printf("sheet %zu entries %" PRIu64 " ", i + 1,
+		       number_at(&check->sheets[i].bytes, 12, 2));
+		put_name(stdout, check->sheets[i].name);
+		putchar('\n');
+	}
+}
+
+/* A line for each range that differs from the release, until one can't be written. */
+static enum status show_ranges(const struct check *check)
+{
+	struct ranges ranges;
+	struct range range;
+	if (start_ranges(&ranges, check) != FINE)
+		return FAILED;
+	while (ferror(stdout) == 0 && next_range(&ranges, &range))
+		put_range(stdout, &ranges, &range, MOST_SHOWN);
+	end_ranges(&ranges);
+	return FINE;
+}
+
+/* The whole output where every file was taken: the verdict, then what it is about. */
+enum status show_verify(const struct check *check)
+{
+	printf("verdict %s\n", verdict_of(check));
+	printf("base 0x%08" PRIX64 "\n", count_of(check, PAJURENDA_AUDIT_BASE));
+	printf("move %" PRId64 "\n", pajurenda_signed_field(check->moved, PAJURENDA_RELEASE_MOVE));
+	show_sheets(check);
+	printf("settings %" PRIu64 "\n", count_of(check, PAJURENDA_AUDIT_SETTINGS));
+	printf("strays %" PRIu64 "\n", count_of(check, PAJURENDA_AUDIT_STRAYS));
+	printf("bits %" PRIu64 "\n", count_of(check, PAJURENDA_AUDIT_BITS));
+	if (show_ranges(check) != FINE)
+		return FAILED;
+	return is_good(check) ? FINE : UNEXPLAINED;
+}
+
+/* verify [--owners LIST --owner N] [--json] [--report FILE] [--text FILE] VENDOR SHEET.. SHIPPED, or a list */
+enum status do_verify(char **word, const struct options *options)
+{
+	return run_checks(true, word, options);
+}
