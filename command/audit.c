@@ -32,30 +32,26 @@ static void show_bytes(const struct check *check)
 }
 
 /* Neighbours joined, each with where it lies. */
-static enum status show_ranges(const struct check *check)
+static void show_ranges(const struct check *check)
 {
 	struct ranges ranges;
 	struct range range;
-	if (start_ranges(&ranges, check) != FINE)
-		return FAILED;
+	start_ranges(&ranges, check);
 	while (ferror(stdout) == 0 && next_range(&ranges, &range)) {
 		put_place(stdout, &ranges, &range);
 		putchar('\n');
 	}
-	end_ranges(&ranges);
-	return FINE;
 }
 
 /* The differences as the options want them. */
-static enum status show_differences(const struct check *check, unsigned options)
+static void show_differences(const struct check *check, unsigned options)
 {
 	if ((options & RANGES) != 0)
-		return show_ranges(check);
-	if ((options & BYTES) != 0)
+		show_ranges(check);
+	else if ((options & BYTES) != 0)
 		show_bytes(check);
 	else
 		show_list(&check->found);
-	return FINE;
 }
 
 /* The whole output of an accepted audit. */
@@ -65,8 +61,7 @@ enum status show_audit(const struct check *check, unsigned options)
 	printf("settings %" PRIu64 "\n", count_of(check, PAJURENDA_AUDIT_SETTINGS));
 	printf("strays %" PRIu64 "\n", count_of(check, PAJURENDA_AUDIT_STRAYS));
 	printf("bits %" PRIu64 "\n", count_of(check, PAJURENDA_AUDIT_BITS));
-	if (show_differences(check, options) != FINE)
-		return FAILED;
+	show_differences(check, options);
 	printf("verdict %s\n", verdict_of(check));
 	return is_good(check) ? FINE : UNEXPLAINED;
 }

@@ -6,6 +6,7 @@
 #include "json.h"
 #include "letters.h"
 #include "ranges.h"
+#include "show.h"
 #include "signs.h"
 
 /* A range's bytes in a file. */
@@ -30,7 +31,23 @@ static void write_setter(const struct range *range)
 	printf(", \"makers\": %s", !range->stray && !range->set.changed ? "true" : "false");
 }
 
-/* The same members for every range; offset and index are null where the place has none. */
+/* Which word it is, and the module that holds the range. */
+static void write_lying(const struct ranges *ranges, const struct lying *where)
+{
+	if (where->room == PATCH_WORD || where->room == RELOCATION_WORD)
+		printf(", \"index\": %" PRIu64, where->index);
+	else
+		fputs(", \"index\": null", stdout);
+	if (where->module == NO_MODULE) {
+		fputs(", \"module\": null, \"file\": null", stdout);
+		return;
+	}
+	printf(", \"module\": %" PRIu64 ", \"file\": \"", where->module);
+	show_guid(stdout, guid_of(ranges->map.contents, where->module));
+	putchar('"');
+}
+
+/* The same members for every range; offset, index, module and file are null where there is none. */
 static void write_range(const struct ranges *ranges, const struct range *range, const char *before)
 {
 	const struct check *check = ranges->check;
@@ -42,10 +59,7 @@ static void write_range(const struct ranges *ranges, const struct range *range, 
 		printf("%" PRIu64, range->first - ranges->map.region);
 	else
 		fputs("null", stdout);
-	if (range->where.room == PATCH_WORD)
-		printf(", \"index\": %" PRIu64, range->where.index);
-	else
-		fputs(", \"index\": null", stdout);
+	write_lying(ranges, &range->where);
 	write_bytes("should", &check->reference, range);
 	write_bytes("is", &check->shipped.bytes, range);
 	if (check->verify)
@@ -54,21 +68,18 @@ static void write_range(const struct ranges *ranges, const struct range *range, 
 }
 
 /* Every range, until one can't be written. */
-static enum status write_ranges(const struct check *check)
+static void write_ranges(const struct check *check)
 {
 	struct ranges ranges;
 	struct range range;
 	const char *before = "";
-	if (start_ranges(&ranges, check) != FINE)
-		return FAILED;
+	start_ranges(&ranges, check);
 	fputs(",\n  \"ranges\": [", stdout);
 	while (ferror(stdout) == 0 && next_range(&ranges, &range)) {
 		write_range(&ranges, &range, before);
 		before = ",";
 	}
-	end_ranges(&ranges);
 	printf("%s]", *before == 0 ? "" : "\n  ");
-	return FINE;
 }
 
 /* The sheets by name, in the order they were applied. */
@@ -97,7 +108,7 @@ static void write_owner(const struct check *check)
 }
 
 /* What an accepted check found. */
-static enum status write_found(const struct check *check)
+static void write_found(const struct check *check)
 {
 	json_hex("base", 8, count_of(check, PAJURENDA_AUDIT_BASE));
 	printf(",\n  \"move\": %" PRId64,
@@ -105,7 +116,7 @@ static enum status write_found(const struct check *check)
 	json_number("settings", count_of(check, PAJURENDA_AUDIT_SETTINGS));
 	json_number("strays", count_of(check, PAJURENDA_AUDIT_STRAYS));
 	json_number("bits", count_of(check, PAJURENDA_AUDIT_BITS));
-	return write_ranges(check);
+	write_ranges(check);
 }
 
 /* The whole document, of a refused check too. */
@@ -122,8 +133,8 @@ enum status write_check(const struct check *check)
 	json_answer(check->number, check->index);
 	if (refused)
 		json_text("refused", check->refused->name);
-	else if (write_found(check) != FINE)
-		return FAILED;
+	else
+		write_found(check);
 	json_text("verdict", verdict_of(check));
 	end_json();
 	return refused ? FAILED : is_good(check) ? FINE : UNEXPLAINED;

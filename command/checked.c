@@ -88,6 +88,7 @@ void end_check(struct check *check)
 	free(check->reference.at);
 	free(check->found.places);
 	free(check->settled);
+	free_contents(&check->contents);
 }
 
 /* ---- refusals ---- */
@@ -217,6 +218,8 @@ enum status judge(struct check *check)
 		pajurenda_read(vendor->at, vendor->length, check->reading, sizeof check->reading);
 	if (own != PAJURENDA_ACCEPTED)
 		return refuse_check(check, own, &check->vendor);
+	if (load_contents(vendor, &check->contents) != FINE || sort_words(&check->contents) != FINE)
+		return FAILED;
 	if (!copy_bytes(vendor, &check->reference))
 		return fail_no_memory(check->vendor.name);
 	return check->verify ? judge_verify(check) : judge_audit(check);

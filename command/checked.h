@@ -5,6 +5,7 @@
 #ifndef COMMAND_CHECKED_H
 #define COMMAND_CHECKED_H
 
+#include "contents.h"
 #include "findings.h"
 #include "owners.h"
 #include "refusals.h"
@@ -29,6 +30,7 @@ struct check {
 	uint64_t index;
 	const struct named *refused;
 	uint8_t reading[PAJURENDA_READ_BYTES];  /* of the vendor's image */
+	struct contents contents;               /* what is inside it, its words by position */
 	uint8_t moved[PAJURENDA_RELEASE_BYTES]; /* the answer of the move to the shipped base */
 	struct bytes reference;                 /* what the file should be */
 	struct findings found;                  /* every difference from the reference */

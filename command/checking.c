@@ -55,16 +55,13 @@ static bool are_apart(const struct check *check, const struct options *options)
 }
 
 /* Every range with all its bytes, a line each. */
-static enum status write_ranges(FILE *to, const struct check *check)
+static void write_ranges(FILE *to, const struct check *check)
 {
 	struct ranges ranges;
 	struct range range;
-	if (start_ranges(&ranges, check) != FINE)
-		return FAILED;
+	start_ranges(&ranges, check);
 	while (next_range(&ranges, &range))
 		put_range(to, &ranges, &range, UINT64_MAX);
-	end_ranges(&ranges);
-	return FINE;
 }
 
 /* The whole list as a text in memory of its own; false after a message. */
@@ -77,13 +74,13 @@ static bool make_text(const struct check *check, struct named *text)
 		fail_no_memory(text->name);
 		return false;
 	}
-	const enum status status = write_ranges(to, check);
+	write_ranges(to, check);
 	const bool whole = ferror(to) == 0;
 	const bool closed = fclose(to) == 0;
 	text->bytes = (struct bytes){ .at = (uint8_t *)at, .length = length };
-	if (status == FINE && (!whole || !closed))
+	if (!whole || !closed)
 		fail_no_memory(text->name);
-	return status == FINE && whole && closed;
+	return whole && closed;
 }
 
 /* The page, after the whole list where that was asked for; of a refused check the page alone. */

@@ -11,7 +11,7 @@ enum status { FINE = 0, UNEXPLAINED = 1, FAILED = 2 };
 /* The options, as bits. */
 enum option {
 	HELP = 1, VERSION = 2, BYTES = 4, RANGES = 8, WORDS = 16, JSON = 32, OWNERS = 64, OWNER = 128,
-	REPORT = 256, TEXT = 512, LIST = 1024, REPORTS = 2048
+	REPORT = 256, TEXT = 512, LIST = 1024, REPORTS = 2048, MODULES = 4096
 };
 
 /* The options of a command line, and the values of those that have one; NULL where it isn't given. */

@@ -17,8 +17,9 @@
 #define LINE ((size_t)70)
 
 static const struct command commands[] = {
-	{ "read", { "IMAGE" }, WORDS | JSON, do_read, "[--words] [--json] IMAGE", NULL,
-	  "shows what an image's header says", read_help },
+	{ "read", { "IMAGE" }, MODULES | WORDS | JSON, do_read,
+	  "[--modules] [--words] [--json] IMAGE", NULL,
+	  "shows what an image's header says, its modules and the words of a move", read_help },
 	{ "release", { "IMAGE", "SHEET", "BASE", "OUT" }, OWNERS | OWNER, do_release,
 	  "--owners LIST --owner N IMAGE SHEET BASE OUT", NULL,
 	  "writes the image with a sheet's settings, moved to a base", release_help },
@@ -124,16 +125,16 @@ const struct command *first_of_group(const char *word)
 	return NULL;
 }
 
-/* One refusal: number, name and rule, in lines of at most 87 characters. */
+/* One refusal: number, name and rule, in lines of at most 88 characters. */
 static void show_refusal(uint32_t number)
 {
 	const char *rest = pajurenda_sentence(number);
-	printf("%4d  %-9s  ", (int)number, pajurenda_name(number));
+	printf("%4d  %-10s  ", (int)number, pajurenda_name(number));
 	while (strlen(rest) > LINE) {
 		size_t end = LINE;
 		while (end > 0 && rest[end] != ' ')
 			end--;
-		printf("%.*s\n%17s", (int)end, rest, "");
+		printf("%.*s\n%18s", (int)end, rest, "");
 		rest += end + 1;
 	}
 	puts(rest);
@@ -170,11 +171,11 @@ static void show_general(void)
 	puts("help         shows this, or the help of one command (also: COMMAND --help)");
 	fputs(general_help, stdout);
 	show_refusals(PAJURENDA_LENGTH, PAJURENDA_ROOM);
-	show_refusals(PAJURENDA_RESERVED, PAJURENDA_OWNER);
+	show_refusals(PAJURENDA_RESERVED, PAJURENDA_RELOCATION);
 	show_refusals(PAJURENDA_BLOCK, PAJURENDA_KIND);
 	show_refusals(PAJURENDA_ORDER, PAJURENDA_UNKNOWN);
-	puts("\nAn image is judged in the order 1 to 12, 22, 13, 14, a release then 15, 23, 16, 17, 24,\n"
-	     "18; the first that applies is told. The audit here makes its list as long as it must\n"
+	puts("\nAn image is judged in the order 1 to 12, 22, 13, 14, 25, 26, 27, a release then 15, 23,\n"
+	     "16, 17, 24, 18; the first that applies is told. The lists here are as long as they must\n"
 	     "be, so 20 is for other callers.");
 }
 

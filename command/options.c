@@ -32,7 +32,7 @@ struct known {
 static const struct known option_names[] = {
 	{ "-h", HELP, NULL },       { "--help", HELP, NULL },     { "--version", VERSION, NULL },
 	{ "--bytes", BYTES, NULL }, { "--ranges", RANGES, NULL }, { "--words", WORDS, NULL },
-	{ "--json", JSON, NULL },
+	{ "--json", JSON, NULL },   { "--modules", MODULES, NULL },
 	{ "--owners", OWNERS, " has no LIST after it" },
 	{ "--owner", OWNER, " has no N after it" },
 	{ "--report", REPORT, " has no FILE after it" },

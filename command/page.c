@@ -51,18 +51,14 @@ static void count_range(struct tally *tally, const struct range *range)
 		tally->makers += length;
 }
 
-/* All ranges counted; false after a message. */
-bool take_tally(const struct check *check, struct tally *tally)
+/* All ranges counted. */
+static void take_tally(const struct check *check, struct tally *tally)
 {
 	struct ranges ranges;
 	struct range range;
-	*tally = (struct tally){ .ranges = 0 };
-	if (start_ranges(&ranges, check) != FINE)
-		return false;
+	start_ranges(&ranges, check);
 	while (next_range(&ranges, &range))
 		count_range(tally, &range);
-	end_ranges(&ranges);
-	return true;
 }
 
 /* ---- the frame ---- */
@@ -106,34 +102,32 @@ static void put_end(FILE *to)
 	      "</main>\n</body>\n</html>\n", to);
 }
 
-/* All parts of an accepted check after its verdict; false after a message. */
-static bool put_found(const struct page *page, const struct tally *tally)
+/* All parts of an accepted check after its verdict. */
+static void put_found(const struct page *page, const struct tally *tally)
 {
 	put_files(page);
 	put_facts(page);
-	if (!put_maps(page) || !put_ranges(page, tally))
-		return false;
+	put_maps(page);
+	put_ranges(page, tally);
 	put_sheets(page);
 	put_words(page);
-	return true;
 }
 
 /* The whole page; of a refused check the verdict and the files. */
-static bool put_page(const struct page *page)
+static void put_page(const struct page *page)
 {
 	const bool refused = page->check->number != PAJURENDA_ACCEPTED;
 	struct tally tally = { .ranges = 0 };
-	if (!refused && !take_tally(page->check, &tally))
-		return false;
+	if (!refused)
+		take_tally(page->check, &tally);
 	put_head(page);
 	put_top(page);
 	put_verdict(page, &tally);
 	if (refused)
 		put_files(page);
-	else if (!put_found(page, &tally))
-		return false;
+	else
+		put_found(page, &tally);
 	put_end(page->to);
-	return true;
 }
 
 /* The page written whole or not at all; false after a message. */
@@ -146,13 +140,13 @@ bool save_page(const struct check *check, const char *name, const struct named *
 		fail_no_memory(name);
 		return false;
 	}
-	const bool put = put_page(&page);
+	put_page(&page);
 	const bool whole = ferror(page.to) == 0;
 	const bool closed = fclose(page.to) == 0;
 	const struct bytes bytes = { .at = (uint8_t *)at, .length = length };
-	if (put && (!whole || !closed))
+	if (!whole || !closed)
 		fail_no_memory(name);
-	const bool saved = put && whole && closed && save(name, &bytes);
+	const bool saved = whole && closed && save(name, &bytes);
 	free(at);
 	return saved;
 }

@@ -24,18 +24,17 @@ struct tally {
 
 bool save_page(const struct check *check, const char *name, const struct named *text);
 
-/* Its parts, each in a file of its own; false where there is no memory. */
+/* Its parts, each in a file of its own. */
 void put_style(FILE *to);
 void put_verdict(const struct page *page, const struct tally *tally);
 void put_files(const struct page *page);
 void put_facts(const struct page *page);
 void put_words(const struct page *page);
-bool put_maps(const struct page *page);
-bool put_ranges(const struct page *page, const struct tally *tally);
+void put_maps(const struct page *page);
+void put_ranges(const struct page *page, const struct tally *tally);
 void put_sheets(const struct page *page);
 
 /* Small ones that all use. */
-bool take_tally(const struct check *check, struct tally *tally);
 void put_plural(FILE *to, uint64_t count, const char *one, const char *many);
 void put_cut_bytes(FILE *to, const struct bytes *file, uint64_t at, uint64_t length);
 

@@ -5,10 +5,9 @@
 #include "page.h"
 #include "show.h"
 #include "signs.h"
-#include "words.h"
 
-/* How many patch words are listed. */
-#define MOST_WORDS ((uint64_t)64)
+/* How many words are listed. */
+#define MOST_WORDS ((uint64_t)65)
 
 /* ---- the verdict ---- */
 
@@ -165,7 +164,7 @@ static void put_identity(FILE *to, const uint8_t *identity)
 }
 
 /* What the vendor's image is. */
-static void put_image(FILE *to, const uint8_t *reading)
+static void put_image(FILE *to, const uint8_t *reading, const struct contents *contents)
 {
 	static const char *const names[] = { "?", "T", "M", "S", "I" };
 	const uint64_t component = pajurenda_field(reading, PAJURENDA_READ_COMPONENT);
@@ -183,6 +182,8 @@ static void put_image(FILE *to, const uint8_t *reading)
 	put_number(to, "Patch entries", "%" PRIu64, pajurenda_field(reading, PAJURENDA_READ_COUNT));
 	put_number(to, "Region at", "%" PRIu64, pajurenda_field(reading, PAJURENDA_READ_REGION));
 	put_number(to, "Region's bytes", "%" PRIu64, pajurenda_field(reading, PAJURENDA_READ_SIZE));
+	put_number(to, "Modules", "%" PRIu64, count_modules(contents));
+	put_number(to, "Words that a move changes", "%" PRIu64, count_moved(contents));
 }
 
 /* Where it was moved, and the counts. */
@@ -193,7 +194,7 @@ void put_facts(const struct page *page)
 	snprintf(move, sizeof move, "%+" PRId64,
 		 pajurenda_signed_field(check->moved, PAJURENDA_RELEASE_MOVE));
 	fputs("<section>\n<h2>What the maker's image says of itself</h2>\n<dl>\n", page->to);
-	put_image(page->to, check->reading);
+	put_image(page->to, check->reading, &check->contents);
 	fprintf(page->to, "</dl>\n</section>\n<section>\n<h2>The shipped file, against %s</h2>\n<dl>\n",
 		check->verify ? "the release" : "the maker's image moved");
 	put_number(page->to, "Base", "0x%08" PRIX64, count_of(check, PAJURENDA_AUDIT_BASE));
@@ -210,42 +211,48 @@ void put_facts(const struct page *page)
 /* ---- the words ---- */
 
 /* A word's row: in the maker's image, as the move makes it, and in the file. */
-static void put_word(const struct page *page, const char *name, const struct word *word)
+static void put_word(const struct page *page, const struct word *word)
 {
 	const struct bytes *files[] = { &page->check->vendor.bytes, &page->check->reference,
 					&page->check->shipped.bytes };
-	fprintf(page->to, "<tr><td>%s</td><td class=\"number\">%" PRIu64 "</td>", name, word->at);
-	for (size_t i = 0; i < 3 && word->there; i++)
-		fprintf(page->to, "<td class=\"bytes\">0x%08" PRIX64 "</td>",
-			pajurenda_number(files[i]->at + word->at, 4));
-	fputs("</tr>\n", page->to);
+	FILE *to = page->to;
+	fprintf(to, "<tr><td>%s", name_room(word->room));
+	if (word->room == PATCH_WORD || word->room == RELOCATION_WORD)
+		fprintf(to, " %" PRIu64, word->index);
+	if (word->module != NO_MODULE)
+		fprintf(to, " in module %" PRIu64, word->module);
+	fprintf(to, "</td><td class=\"number\">%" PRIu64 "</td>", word->at);
+	for (size_t i = 0; i < 3; i++)
+		fprintf(to, "<td class=\"bytes\">0x%0*" PRIX64 "</td>", (int)(2 * word->width),
+			pajurenda_number(files[i]->at + word->at, (size_t)word->width));
+	fputs("</tr>\n", to);
 }
 
-/* The patch words in the table's order, a long table cut with its count. */
-static void put_patch_words(const struct page *page, uint64_t count)
+/* The first words in the order of the move. */
+static void put_first_words(const struct page *page, const struct contents *contents)
 {
-	char name[40];
-	for (uint64_t i = 0; i < count && i < MOST_WORDS; i++) {
-		const struct word word = patch_word(&page->check->vendor.bytes, page->check->reading, i);
-		snprintf(name, sizeof name, "patch word %" PRIu64, i);
-		put_word(page, name, &word);
+	uint64_t left = MOST_WORDS;
+	for (uint64_t i = 0; i < count_entries(contents) && left > 0; i++) {
+		if (!is_word(contents, i))
+			continue;
+		const struct word word = word_at(contents, i);
+		put_word(page, &word);
+		left--;
 	}
 }
 
-/* The words that a move changes. */
+/* The words that a move changes, a long list cut with its count. */
 void put_words(const struct page *page)
 {
-	const uint64_t count = pajurenda_field(page->check->reading, PAJURENDA_READ_COUNT);
-	const struct word base = base_word(&page->check->vendor.bytes, page->check->reading);
+	const struct contents *contents = &page->check->contents;
 	fputs("<section>\n<h2>Words that the move changes</h2>\n<table class=\"words\">\n<thead><tr>"
 	      "<th>Word</th><th class=\"number\">At</th><th>Maker's</th><th>Should be</th><th>Is</th>"
 	      "</tr></thead>\n<tbody>\n", page->to);
-	put_word(page, "base word", &base);
-	put_patch_words(page, count);
+	put_first_words(page, contents);
 	fputs("</tbody>\n</table>\n", page->to);
-	if (count > MOST_WORDS)
-		fprintf(page->to, "<p class=\"note\">… and %" PRIu64 " more patch words; "
+	if (count_moved(contents) > MOST_WORDS)
+		fprintf(page->to, "<p class=\"note\">… and %" PRIu64 " more; "
 			"<code>pajurenda read --words</code> on the maker's image lists all.</p>\n",
-			count - MOST_WORDS);
+			count_moved(contents) - MOST_WORDS);
 	fputs("</section>\n", page->to);
 }

@@ -178,7 +178,7 @@ static void put_differences(FILE *to, struct ranges *ranges, enum kind kind, uin
 {
 	struct lane lane = begin_lane(to, kinds[kind][0], kinds[kind][1], start, length);
 	struct range range;
-	again_ranges(ranges);
+	start_ranges(ranges, ranges->check);
 	while (next_range(ranges, &range))
 		if (is_of(kind, &range))
 			mark(&lane, range.first, range.last);
@@ -197,13 +197,23 @@ static void put_kinds(FILE *to, struct ranges *ranges, uint64_t start, uint64_t 
 	put_differences(to, ranges, ANY_STRAY, start, length);
 }
 
-/* The words that a move changes, the patch words in order of position. */
-static void put_moved(FILE *to, const struct map *map, uint64_t length)
+/* The modules, each with its section's header. */
+static void put_modules(FILE *to, const struct contents *contents, uint64_t length)
+{
+	struct lane lane = begin_lane(to, "modules", "Modules", 0, length);
+	for (uint64_t i = 0; i < count_modules(contents); i++)
+		mark(&lane, contents->modules[i].section, contents->modules[i].end - 1);
+	end_lane(&lane);
+}
+
+/* The words that a move changes, in order of position. */
+static void put_moved(FILE *to, const struct contents *contents, uint64_t length)
 {
 	struct lane lane = begin_lane(to, "moved", "Moved words", 0, length);
-	mark(&lane, map->base, map->base + 3);
-	for (uint64_t i = 0; i < map->count; i++)
-		mark(&lane, map->words[i].at, map->words[i].at + 3);
+	for (uint64_t i = 0; i < count_moved(contents); i++) {
+		const struct word word = word_at(contents, contents->spots[i].entry);
+		mark(&lane, word.at, word.at + word.width - 1);
+	}
 	end_lane(&lane);
 }
 
@@ -270,17 +280,19 @@ static void put_region(FILE *to, struct ranges *ranges)
 	      "sets.</p>\n", to);
 }
 
-/* Both maps; false after a message. */
-bool put_maps(const struct page *page)
+/* Both maps. */
+void put_maps(const struct page *page)
 {
 	const struct bytes *image = &page->check->vendor.bytes;
+	const struct contents *contents = &page->check->contents;
 	const struct parts parts = parts_of(image, page->check->reading);
 	struct ranges ranges;
-	if (start_ranges(&ranges, page->check) != FINE)
-		return false;
+	start_ranges(&ranges, page->check);
 	fputs("<section>\n<h2>Map of the image</h2>\n<div class=\"map\" id=\"image\">\n", page->to);
 	put_parts(page->to, &parts, image->length);
-	put_moved(page->to, &ranges.map, image->length);
+	if (count_modules(contents) > 0)
+		put_modules(page->to, contents, image->length);
+	put_moved(page->to, contents, image->length);
 	put_kinds(page->to, &ranges, 0, image->length);
 	put_scale(page->to, 0, image->length);
 	put_legend(page->to, &parts);
@@ -288,6 +300,4 @@ bool put_maps(const struct page *page)
 	put_region(page->to, &ranges);
 	fputs("<p class=\"note\">Drawn to scale by position, in bytes; a mark is never thinner than can be "
 	      "seen, and marks that would touch are one.</p>\n</section>\n", page->to);
-	end_ranges(&ranges);
-	return true;
 }

@@ -7,16 +7,6 @@
 /* How many ranges are listed. */
 #define MOST_ROWS ((uint64_t)1000)
 
-/* Where a range lies. */
-static void put_where(FILE *to, const struct ranges *ranges, const struct range *range)
-{
-	fputs(name_room(range->where.room), to);
-	if (range->where.room == PATCH_WORD)
-		fprintf(to, " %" PRIu64, range->where.index);
-	if (range->where.room == SETTINGS)
-		fprintf(to, " %" PRIu64, range->first - ranges->map.region);
-}
-
 /* Of a verify: who sets it, and whether it is still the maker's. */
 static void put_setter(FILE *to, const struct range *range)
 {
@@ -82,8 +72,8 @@ static void put_rest(const struct page *page, uint64_t ranges, uint64_t bytes)
 	fputs("</p>\n", to);
 }
 
-/* The table, or the sentence that it would be empty; false after a message. */
-bool put_ranges(const struct page *page, const struct tally *tally)
+/* The table, or the sentence that it would be empty. */
+void put_ranges(const struct page *page, const struct tally *tally)
 {
 	struct ranges ranges;
 	FILE *to = page->to;
@@ -91,10 +81,9 @@ bool put_ranges(const struct page *page, const struct tally *tally)
 		page->check->verify ? "the release" : "the maker's image moved");
 	if (tally->ranges == 0) {
 		fputs("<p>None.</p>\n</section>\n", to);
-		return true;
+		return;
 	}
-	if (start_ranges(&ranges, page->check) != FINE)
-		return false;
+	start_ranges(&ranges, page->check);
 	fprintf(to, "<table class=\"ranges\">\n<thead><tr><th>Kind</th><th>Position</th>"
 		"<th class=\"number\">Bytes</th><th>Where</th><th>Should be</th><th>Is</th>%s"
 		"</tr></thead>\n<tbody>\n", page->check->verify ? "<th>Set by</th>" : "");
@@ -103,6 +92,4 @@ bool put_ranges(const struct page *page, const struct tally *tally)
 	if (tally->ranges > MOST_ROWS)
 		put_rest(page, tally->ranges - MOST_ROWS, differences(&page->check->found) - bytes);
 	fputs("</section>\n", to);
-	end_ranges(&ranges);
-	return true;
 }

@@ -47,6 +47,7 @@ static const char style[] =
 	".lane svg.parts{height:2rem}\n"
 	"svg rect{vector-effect:non-scaling-stroke;stroke-width:1.5px}\n"
 	".moved rect{fill:#6e7781;stroke:#6e7781}\n"
+	".modules rect{fill:#8a6d3b;stroke:#8a6d3b}\n"
 	".set rect{fill:#9fb8d0;stroke:#9fb8d0}\n"
 	".settings rect,.others rect{fill:#1f5f99;stroke:#1f5f99}\n"
 	".sheets rect,.strays rect{fill:#9b2226;stroke:#9b2226}\n"

@@ -20,7 +20,7 @@ _pajurenda_options()
 {
 	case $1 in
 	'') echo '--help --version' ;;
-	read) echo '--words --json --help' ;;
+	read) echo '--modules --words --json --help' ;;
 	audit) echo '--bytes --ranges --json --report --text --list --reports --help' ;;
 	verify) echo '--owners --owner --json --report --text --list --reports --help' ;;
 	handoff | sheet\ show) echo '--json --help' ;;

@@ -1,66 +1,69 @@
 /*
  * The audit's list as ranges: neighbouring positions of one kind, cut where the place they lie in
- * changes. The kinds are the library's; the places are the vendor image's reading.
+ * changes. The kinds are the library's; the places are those of its reading of the vendor's image and
+ * of its list of what is inside.
  */
 #include "ranges.h"
 
-#include <errno.h>
 #include <inttypes.h>
 #include <stdio.h>
-#include <stdlib.h>
 
 #include "letters.h"
 #include "messages.h"
 #include "show.h"
-#include "words.h"
 
 /* ---- where a position lies ---- */
 
-static int compare_spots(const void *one, const void *other)
+/* The rooms of an image, from its start. */
+static struct map map_rooms(const struct check *check)
 {
-	const uint64_t a = ((const struct spot *)one)->at, b = ((const struct spot *)other)->at;
-	return a < b ? -1 : a > b;
-}
-
-/* The patch words in order of position; false where there is no memory. */
-static bool map_words(const struct bytes *vendor, const uint8_t *reading, struct map *map)
-{
-	map->count = pajurenda_field(reading, PAJURENDA_READ_COUNT);
-	map->words = calloc((size_t)map->count + 1, sizeof *map->words);
-	if (map->words == NULL)
-		return false;
-	for (uint64_t i = 0; i < map->count; i++)
-		map->words[i] = (struct spot){ .at = patch_word(vendor, reading, i).at, .index = i };
-	qsort(map->words, (size_t)map->count, sizeof *map->words, compare_spots);
-	return true;
-}
-
-/* The rooms that the reading gives. */
-static struct map map_rooms(const uint8_t *reading)
-{
-	const uint64_t header = pajurenda_field(reading, PAJURENDA_READ_HEADER);
 	return (struct map){
-		.header = header,
-		.end = pajurenda_field(reading, PAJURENDA_READ_END),
-		.base = header + 28,
-		.region = pajurenda_field(reading, PAJURENDA_READ_REGION),
+		.contents = &check->contents,
+		.header = pajurenda_field(check->reading, PAJURENDA_READ_HEADER),
+		.end = pajurenda_field(check->reading, PAJURENDA_READ_END),
+		.region = pajurenda_field(check->reading, PAJURENDA_READ_REGION),
 	};
 }
 
-/* A stray's room, positions coming in order. */
+/* The module that holds a position, positions coming in order: its section, with the header. */
+static uint64_t find_module(struct map *map, uint64_t at)
+{
+	const struct module *modules = map->contents->modules;
+	const uint64_t count = count_modules(map->contents);
+	while (map->modules < count && at >= modules[map->modules].end)
+		map->modules++;
+	return map->modules < count && at >= modules[map->modules].section ? map->modules : NO_MODULE;
+}
+
+/* The word that has a position, positions coming in order; false where none has. */
+static bool find_word(struct map *map, uint64_t at, struct word *word)
+{
+	const struct spot *spots = map->contents->spots;
+	while (map->words < count_moved(map->contents) && at >= spots[map->words].at) {
+		*word = word_at(map->contents, spots[map->words].entry);
+		if (at < word->at + word->width)
+			return true;
+		map->words++;
+	}
+	return false;
+}
+
+/* A stray's room. */
 static struct lying find_room(struct map *map, uint64_t at)
 {
-	while (map->passed < map->count && at >= map->words[map->passed].at + 4)
-		map->passed++;
-	if (map->passed < map->count && at >= map->words[map->passed].at)
-		return (struct lying){ PATCH_WORD, map->words[map->passed].index };
-	if (at >= map->base && at < map->base + 4)
-		return (struct lying){ BASE_WORD, 0 };
-	if (at >= map->header && at < map->end)
-		return (struct lying){ TABLES, 0 };
-	if (at >= map->region && at < map->region + 32)
-		return (struct lying){ REGION_HEADER, 0 };
-	return (struct lying){ ELSEWHERE, 0 };
+	struct lying lying = { .room = ELSEWHERE, .module = find_module(map, at) };
+	struct word word;
+	if (find_word(map, at, &word)) {
+		lying.room = word.room;
+		lying.index = word.index;
+	} else if (at >= map->header && at < map->end) {
+		lying.room = TABLES;
+	} else if (at >= map->region && at < map->region + 32) {
+		lying.room = REGION_HEADER;
+	} else if (lying.module != NO_MODULE) {
+		lying.room = MODULE_BYTES;
+	}
+	return lying;
 }
 
 /* What the sheets make of a setting; nothing in an audit. */
@@ -80,11 +83,13 @@ static struct range range_of(struct ranges *ranges, uint64_t i)
 	const uint32_t place = pajurenda_place(ranges->check->found.places, (size_t)i);
 	const uint64_t at = pajurenda_position(place);
 	struct range range = { .stray = pajurenda_is_stray(place) != 0, .first = at, .last = at,
-			       .where = { SETTINGS, 0 } };
-	if (range.stray)
+			       .where = { .room = SETTINGS } };
+	if (range.stray) {
 		range.where = find_room(&ranges->map, at);
-	else
-		range.set = settled_at(ranges, at);
+		return range;
+	}
+	range.where.module = find_module(&ranges->map, at);
+	range.set = settled_at(ranges, at);
 	return range;
 }
 
@@ -95,18 +100,16 @@ static bool goes_on(const struct range *one, const struct range *next)
 {
 	return next->first == one->last + 1 && next->stray == one->stray &&
 	       next->where.room == one->where.room && next->where.index == one->where.index &&
+	       next->where.module == one->where.module &&
 	       next->set.sheet == one->set.sheet && next->set.entry == one->set.entry &&
 	       next->set.changed == one->set.changed;
 }
 
 /* The list of a check that the library has accepted, from its start. */
-enum status start_ranges(struct ranges *ranges, const struct check *check)
+void start_ranges(struct ranges *ranges, const struct check *check)
 {
-	*ranges = (struct ranges){ .check = check, .map = map_rooms(check->reading),
+	*ranges = (struct ranges){ .check = check, .map = map_rooms(check),
 				   .count = differences(&check->found) };
-	if (!map_words(&check->vendor.bytes, check->reading, &ranges->map))
-		return fail_at("list of patch words", ENOMEM);
-	return FINE;
 }
 
 /* The next range; false after the last. */
@@ -125,18 +128,6 @@ bool next_range(struct ranges *ranges, struct range *range)
 	return true;
 }
 
-/* From the start once more. */
-void again_ranges(struct ranges *ranges)
-{
-	ranges->next = 0;
-	ranges->map.passed = 0;
-}
-
-void end_ranges(struct ranges *ranges)
-{
-	free(ranges->map.words);
-}
-
 /* ---- shown ---- */
 
 uint64_t length_of(const struct range *range)
@@ -146,20 +137,38 @@ uint64_t length_of(const struct range *range)
 
 const char *name_room(enum room room)
 {
-	static const char *const names[] = { "base word", "patch word", "tables", "region header",
-					     "region offset", "elsewhere" };
+	static const char *const names[] = {
+		[BASE_WORD] = "base word",         [PATCH_WORD] = "patch word",
+		[IMAGE_BASE] = "image base",       [RELOCATION_WORD] = "relocation word",
+		[TABLES] = "tables",               [REGION_HEADER] = "region header",
+		[SETTINGS] = "region offset",      [MODULE_BYTES] = "module",
+		[ELSEWHERE] = "elsewhere",
+	};
 	return names[room];
+}
+
+/* What a range belongs to, and the module that holds it; of a module's other bytes the module alone. */
+void put_where(FILE *to, const struct ranges *ranges, const struct range *range)
+{
+	const struct lying *where = &range->where;
+	if (where->room != MODULE_BYTES)
+		fputs(name_room(where->room), to);
+	if (where->room == PATCH_WORD || where->room == RELOCATION_WORD)
+		fprintf(to, " %" PRIu64, where->index);
+	if (where->room == SETTINGS)
+		fprintf(to, " %" PRIu64, range->first - ranges->map.region);
+	if (where->module == NO_MODULE)
+		return;
+	fprintf(to, "%smodule %" PRIu64 " ", where->room == MODULE_BYTES ? "" : " in ", where->module);
+	show_guid(to, guid_of(ranges->map.contents, where->module));
 }
 
 /* Kind, first and last position, length, and where it lies. */
 void put_place(FILE *to, const struct ranges *ranges, const struct range *range)
 {
-	fprintf(to, "%c %" PRIu64 "..%" PRIu64 " length %" PRIu64 " %s", range->stray ? 'X' : 'S',
-		range->first, range->last, length_of(range), name_room(range->where.room));
-	if (range->where.room == PATCH_WORD)
-		fprintf(to, " %" PRIu64, range->where.index);
-	if (range->where.room == SETTINGS)
-		fprintf(to, " %" PRIu64, range->first - ranges->map.region);
+	fprintf(to, "%c %" PRIu64 "..%" PRIu64 " length %" PRIu64 " ", range->stray ? 'X' : 'S',
+		range->first, range->last, length_of(range));
+	put_where(to, ranges, range);
 }
 
 /* A range's bytes in a file, at most so many of them. */

@@ -6,27 +6,19 @@
 
 #include "checked.h"
 
-/* Where a position lies. */
-enum room { BASE_WORD, PATCH_WORD, TABLES, REGION_HEADER, SETTINGS, ELSEWHERE };
-
-/* A room; for a patch word with its index. */
+/* What a position belongs to: for a patch word its entry's index, for a relocation word its number in the
+   module; and the module that holds the position, whatever it belongs to. */
 struct lying {
 	enum room room;
 	uint64_t index;
+	uint64_t module;
 };
 
-/* A patch word's position and index. */
-struct spot {
-	uint64_t at;
-	uint64_t index;
-};
-
-/* The vendor image's rooms; its patch words in order of position, of which some are passed. */
+/* The vendor image's rooms; its words and modules in order of position, of which some are passed. */
 struct map {
-	uint64_t header, end, base, region;
-	struct spot *words;
-	uint64_t count;
-	uint64_t passed;
+	const struct contents *contents;
+	uint64_t header, end, region;
+	uint64_t words, modules;
 };
 
 /* Positions of one kind in a row; of settings what the sheets make of them. */
@@ -44,12 +36,11 @@ struct ranges {
 	uint64_t count, next;
 };
 
-enum status start_ranges(struct ranges *ranges, const struct check *check);
+void start_ranges(struct ranges *ranges, const struct check *check);
 bool next_range(struct ranges *ranges, struct range *range);
-void again_ranges(struct ranges *ranges);
-void end_ranges(struct ranges *ranges);
 const char *name_room(enum room room);
 uint64_t length_of(const struct range *range);
+void put_where(FILE *to, const struct ranges *ranges, const struct range *range);
 void put_place(FILE *to, const struct ranges *ranges, const struct range *range);
 void put_range(FILE *to, const struct ranges *ranges, const struct range *range, uint64_t most);
 

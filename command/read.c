@@ -1,15 +1,14 @@
-/* read IMAGE: what the image's header says, and the words that a move changes. */
+/* read IMAGE: what the image's header says, and what is inside: its modules and the words of a move. */
 #include <inttypes.h>
 #include <stdio.h>
 #include <stdlib.h>
 
 #include "files.h"
+#include "inside.h"
 #include "json.h"
 #include "messages.h"
-#include "pajurenda.h"
 #include "refusals.h"
 #include "show.h"
-#include "words.h"
 
 /* A field under its name, in decimal. */
 static void show_field(const char *name, const uint8_t *answer, size_t field)
@@ -48,47 +47,21 @@ static void show_reading(const struct bytes *image, const uint8_t *answer)
 	       pajurenda_field(answer, PAJURENDA_READ_SIZE));
 }
 
-/* The words that a move changes: the base word, then each patch word. */
-static enum status show_words(const struct bytes *image, const uint8_t *answer)
+/* All lines of an accepted image. */
+static void show_image(const struct contents *contents, const uint8_t *answer, unsigned options)
 {
-	const uint64_t count = pajurenda_field(answer, PAJURENDA_READ_COUNT);
-	struct word word = base_word(image, answer);
-
-	if (!word.there)
-		return fail_answer();
-	printf("base word at %" PRIu64 " is 0x%08" PRIX64 "\n", word.at, word.value);
-	for (uint64_t i = 0; i < count; i++) {
-		word = patch_word(image, answer, i);
-		if (!word.there)
-			return fail_answer();
-		printf("patch word %" PRIu64 " entry 0x%08" PRIX64 " at %" PRIu64
-		       " is 0x%08" PRIX64 "\n", i, word.entry, word.at, word.value);
-	}
-	return FINE;
+	show_reading(contents->image, answer);
+	show_counts(contents, answer);
+	if ((options & MODULES) != 0)
+		show_modules(contents);
+	if ((options & WORDS) != 0)
+		show_words(contents, answer);
 }
 
 /* ---- for a program ---- */
 
-/* The words again, the base word first. */
-static enum status write_words(const struct bytes *image, const uint8_t *answer)
-{
-	const uint64_t count = pajurenda_field(answer, PAJURENDA_READ_COUNT);
-	struct word word = base_word(image, answer);
-	printf(",\n  \"base_word\": {\"place\": %" PRIu64 ", \"value\": \"0x%08" PRIX64 "\"}", word.at,
-	       word.value);
-	fputs(",\n  \"patch_words\": [", stdout);
-	for (uint64_t i = 0; i < count && word.there; i++) {
-		word = patch_word(image, answer, i);
-		printf("%s\n    {\"index\": %" PRIu64 ", \"entry\": \"0x%08" PRIX64 "\", \"place\": %" PRIu64
-		       ", \"value\": \"0x%08" PRIX64 "\"}", i == 0 ? "" : ",", i, word.entry, word.at,
-		       word.value);
-	}
-	printf("%s]", count == 0 ? "" : "\n  ");
-	return word.there ? FINE : fail_answer();
-}
-
 /* The facts of an accepted reading. */
-static enum status write_reading(const struct bytes *image, const uint8_t *answer, unsigned options)
+static void write_reading(const struct bytes *image, const uint8_t *answer)
 {
 	static const char *const letters[] = { "?", "T", "M", "S", "I" };
 	const uint64_t component = pajurenda_field(answer, PAJURENDA_READ_COMPONENT);
@@ -103,49 +76,71 @@ static enum status write_reading(const struct bytes *image, const uint8_t *answe
 	printf(",\n  \"region\": {\"place\": %" PRIu64 ", \"size\": %" PRIu64 "}",
 	       pajurenda_field(answer, PAJURENDA_READ_REGION),
 	       pajurenda_field(answer, PAJURENDA_READ_SIZE));
-	return (options & WORDS) != 0 ? write_words(image, answer) : FINE;
+}
+
+/* What an accepted image has inside. */
+static void write_inside(const struct contents *contents, const uint8_t *answer, unsigned options)
+{
+	write_counts(contents, answer);
+	if ((options & MODULES) != 0)
+		write_modules(contents);
+	if ((options & WORDS) != 0)
+		write_words(contents, answer);
 }
 
 /* The whole document, of a refused image too. */
-static enum status write_image(const struct named *image, uint32_t number, const uint8_t *answer,
-			       unsigned options)
+static void write_image(const struct named *image, const struct contents *contents,
+			const uint8_t *answer, unsigned options)
 {
+	const uint64_t number = pajurenda_field(answer, PAJURENDA_READ_NUMBER);
 	begin_json("read");
 	json_text("file", image->name);
-	json_answer(number, pajurenda_field(answer, PAJURENDA_READ_INDEX));
-	const enum status status = number == PAJURENDA_ACCEPTED
-					   ? write_reading(&image->bytes, answer, options) : FINE;
+	json_answer((uint32_t)number, pajurenda_field(answer, PAJURENDA_READ_INDEX));
+	if (number == PAJURENDA_ACCEPTED) {
+		write_reading(&image->bytes, answer);
+		write_inside(contents, answer, options);
+	}
 	end_json();
-	return status;
 }
 
 /* ---- both ---- */
 
-/* A loaded image read and shown. */
-static enum status read_image(const struct named *image, unsigned options)
+/* The list where it is to be shown, else the counts alone. */
+static enum status find_contents(const struct bytes *image, struct contents *contents, unsigned options)
+{
+	if ((options & (MODULES | WORDS)) != 0)
+		return load_contents(image, contents);
+	return count_contents(image, contents) ? FINE : fail_answer();
+}
+
+/* A loaded image read and shown; nothing of it before the library's whole answer is there. */
+static enum status read_image(const struct named *image, struct contents *contents, unsigned options)
 {
 	uint8_t answer[PAJURENDA_READ_BYTES] = { 0 };
 	const bool json = (options & JSON) != 0;
 	const uint32_t number =
 		pajurenda_read(image->bytes.at, image->bytes.length, answer, sizeof answer);
 	keep_refusals(json);
-	if (json && write_image(image, number, answer, options) != FINE)
+	if (number == PAJURENDA_ACCEPTED && find_contents(&image->bytes, contents, options) != FINE)
 		return FAILED;
+	if (json)
+		write_image(image, contents, answer, options);
 	if (number != PAJURENDA_ACCEPTED)
 		return refuse_image(number, pajurenda_field(answer, PAJURENDA_READ_INDEX), image);
-	if (json)
-		return FINE;
-	show_reading(&image->bytes, answer);
-	return (options & WORDS) != 0 ? show_words(&image->bytes, answer) : FINE;
+	if (!json)
+		show_image(contents, answer, options);
+	return FINE;
 }
 
-/* read [--words] [--json] IMAGE */
+/* read [--modules] [--words] [--json] IMAGE */
 enum status do_read(char **word, const struct options *options)
 {
 	struct named image = { .name = word[0] };
+	struct contents contents = { .image = NULL };
 	if (!load(image.name, &image.bytes))
 		return FAILED;
-	const enum status status = read_image(&image, options->given);
+	const enum status status = read_image(&image, &contents, options->given);
+	free_contents(&contents);
 	free(image.bytes.at);
 	return status;
 }

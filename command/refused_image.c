@@ -1,9 +1,10 @@
-/* Refusals 1 to 14 and 22 in words: what stands in the image where the rule looks. */
+/* Refusals 1 to 14, 22 and 25 to 27 in words: what stands in the image where the rule looks. */
 #include <inttypes.h>
 #include <stdio.h>
 
 #include "letters.h"
 #include "messages.h"
+#include "modules.h"
 #include "pajurenda.h"
 #include "refusals.h"
 #include "show.h"
@@ -48,15 +49,6 @@ static void say_volume(const struct letters *w, uint64_t index)
 	say_length(w->image);
 }
 
-/* The file header's bytes added up modulo 256, the two that don't count taken as 0. */
-static unsigned sum_of_bytes(const struct letters *w)
-{
-	unsigned sum = 0;
-	for (uint64_t i = 0; i < 24; i++)
-		sum += i == 17 || i == 23 ? 0 : (unsigned)number_at(w->image, w->f + i, 1);
-	return sum & 0xFF;
-}
-
 /* 3: where the file is to stand, its name, attributes, sum and size. */
 static void say_file(const struct letters *w, uint64_t index)
 {
@@ -70,7 +62,7 @@ static void say_file(const struct letters *w, uint64_t index)
 	fputs(", name ", stderr);
 	show_guid(stderr, w->image->at + w->f);
 	fprintf(stderr, ", attributes 0x%02" PRIX64, number_at(w->image, w->f + 19, 1));
-	fprintf(stderr, ", sum 0x%02X", sum_of_bytes(w));
+	fprintf(stderr, ", sum 0x%02X", sum_of_file(w->image, w->f));
 	say(", s", w->s);
 }
 
@@ -228,6 +220,25 @@ static void say_overlap(const struct letters *w, uint64_t index)
 	fprintf(stderr, " at %" PRId64, where_it_points(entry_at(w, nearest), w->image->length));
 }
 
+/* 25, 26, 27: the file, section or module, as far as it can be found. */
+static void say_module(const struct letters *w, uint64_t index)
+{
+	(void)index;
+	say_module_values(w, PAJURENDA_MODULE);
+}
+
+static void say_word(const struct letters *w, uint64_t index)
+{
+	(void)index;
+	say_module_values(w, PAJURENDA_WORD);
+}
+
+static void say_relocation(const struct letters *w, uint64_t index)
+{
+	(void)index;
+	say_module_values(w, PAJURENDA_RELOCATION);
+}
+
 /* The values of each of an image's own rules. */
 static void (*const say_values[])(const struct letters *w, uint64_t index) = {
 	[PAJURENDA_LENGTH] = say_one,       [PAJURENDA_VOLUME] = say_volume,
@@ -237,7 +248,8 @@ static void (*const say_values[])(const struct letters *w, uint64_t index) = {
 	[PAJURENDA_TABLE] = say_table,      [PAJURENDA_CONFIG] = say_config,
 	[PAJURENDA_UPD] = say_upd,          [PAJURENDA_TYPE] = say_type,
 	[PAJURENDA_RESERVED] = say_reserved, [PAJURENDA_PLACE] = say_place,
-	[PAJURENDA_OVERLAP] = say_overlap,
+	[PAJURENDA_OVERLAP] = say_overlap,  [PAJURENDA_MODULE] = say_module,
+	[PAJURENDA_WORD] = say_word,        [PAJURENDA_RELOCATION] = say_relocation,
 };
 
 #define NUMBERS (sizeof say_values / sizeof say_values[0])

@@ -11,16 +11,16 @@
  * Each call writes its answer into the caller's answer buffer: 64-bit little-endian numbers at the
  * offsets named below, from the buffer's first byte. Bytes after the answer are kept. The call
  * returns the answer's number: 0 where accepted, else that of the refusal (images 1 to 20 and 22 to
- * 24, hand-off blocks 30 to 33). Where the answer buffer is shorter than the answer, the call returns
+ * 27, hand-off blocks 30 to 33). Where the answer buffer is shorter than the answer, the call returns
  * PAJURENDA_SHORT and nothing at all is written anywhere. The calls of the station have no answer but
  * the number they return (40 and 41 are theirs), and a state in the answer buffer's place.
  *
  * A refused call changes no byte of an image, of a list or of a state.
  *
- * Small inline functions at the end read a field of an answer and a place of the audit's list, make
- * an image's empty sheet and the owner list that gives all its settings to one owner, take its
- * version apart, and give each number its name and its rule in a sentence, and each kind of block and
- * each call of the station its name. C99 and later, and C++.
+ * Small inline functions at the end read a field of an answer, a place of the audit's list and an
+ * entry of the list of contents, make an image's empty sheet and the owner list that gives all its
+ * settings to one owner, take its version apart, and give each number its name and its rule in a
+ * sentence, and each kind of block and each call of the station its name. C99 and later, and C++.
  */
 #ifndef PAJURENDA_H
 #define PAJURENDA_H
@@ -33,9 +33,9 @@ extern "C" {
 #endif
 
 /* The version of header and library: the whole, and its three numbers. */
-#define PAJURENDA_VERSION "0.12.0"
+#define PAJURENDA_VERSION "0.13.0"
 #define PAJURENDA_VERSION_MAJOR 0
-#define PAJURENDA_VERSION_MINOR 12
+#define PAJURENDA_VERSION_MINOR 13
 #define PAJURENDA_VERSION_PATCH 0
 
 /* The answer's number. A check is made only if all earlier ones passed. */
@@ -60,10 +60,13 @@ enum {
 	PAJURENDA_FIELD = 17,     /* a setting outside the region's settings part */
 	PAJURENDA_NEWBASE = 18,   /* the new base isn't legal */
 	PAJURENDA_PAIR = 19,      /* the two images' lengths differ */
-	PAJURENDA_ROOM = 20,      /* more differences than places */
+	PAJURENDA_ROOM = 20,      /* more differences than places, or more contents than the list has */
 	PAJURENDA_RESERVED = 22,  /* a patch entry's bits 30 to 28; with its index; after 12 */
 	PAJURENDA_OWNERS = 23,    /* the owner list, or a caller who is no owner; after 15 */
 	PAJURENDA_OWNER = 24,     /* a byte of the sheet that isn't the caller's; after 17 */
+	PAJURENDA_MODULE = 25,    /* a file, a section, a module or a relocation block; after 14 */
+	PAJURENDA_WORD = 26,      /* a word of the move where none may be; after 25 */
+	PAJURENDA_RELOCATION = 27, /* a relocation entry's type; after 26 */
 	PAJURENDA_BLOCK = 30,     /* a hand-off block's header or length; after 32 */
 	PAJURENDA_FIRST = 31,     /* the first block isn't the handoff block of 56 bytes */
 	PAJURENDA_NOTHING = 32,   /* no byte is left where a block should stand; before 30 */
@@ -73,7 +76,7 @@ enum {
 	PAJURENDA_SHORT = 100     /* the answer buffer, or a state, is too short; nothing was written */
 };
 
-/* Limits of document 01 in bytes, and how a place of the audit's list is written. */
+/* Limits of document 01 in bytes, and how the places of both lists are written. */
 enum {
 	PAJURENDA_MOST_IMAGE = 16777216, /* the longest image */
 	PAJURENDA_MOST_SHEET = 65535,    /* the longest sheet */
@@ -83,6 +86,18 @@ enum {
 	PAJURENDA_MOST_RANGES = 64,      /* the ranges of the longest owner list */
 	PAJURENDA_PLACE_BYTES = 4,       /* a place of the audit's list, little-endian */
 	PAJURENDA_STRAY = 16777216       /* what a stray's place has above its position */
+};
+
+/* What an entry of the list of contents is: its code, which stands above its place's 24 bits. */
+enum {
+	PAJURENDA_CONTENT_FILE = 1,         /* the file that the module after it is in: its header */
+	PAJURENDA_CONTENT_MODULE = 2,       /* a module: the header of its section */
+	PAJURENDA_CONTENT_IMAGE_BASE_4 = 3, /* the module's image base, of 4 bytes */
+	PAJURENDA_CONTENT_IMAGE_BASE_8 = 4, /* the same, of 8 */
+	PAJURENDA_CONTENT_RELOCATION_4 = 5, /* a relocation word of the module, of 4 bytes */
+	PAJURENDA_CONTENT_RELOCATION_8 = 6, /* the same, of 8 */
+	PAJURENDA_CONTENT_BASE_WORD = 7,    /* the image's base word, of 4 bytes: the first entry */
+	PAJURENDA_CONTENT_PATCH_WORD = 8    /* a patch word, of 4 bytes */
 };
 
 /* The answer of pajurenda_read; where refused, zeros after number and index. */
@@ -100,6 +115,16 @@ enum {
 	PAJURENDA_READ_END = 80,       /* E, the position after the last patch entry */
 	PAJURENDA_READ_EXTENDED = 88,  /* the extended number, 16 bits; 0 below header revision 6 */
 	PAJURENDA_READ_BYTES = 96
+};
+
+/* The answer of pajurenda_contents; 20 keeps the counts, other refusals number and index alone. */
+enum {
+	PAJURENDA_CONTENTS_NUMBER = 0,
+	PAJURENDA_CONTENTS_INDEX = 8,
+	PAJURENDA_CONTENTS_MODULES = 16, /* how many modules the image has, each with an image base */
+	PAJURENDA_CONTENTS_WORDS = 24,   /* how many words a move changes, the base word among them */
+	PAJURENDA_CONTENTS_ENTRIES = 32, /* how many entries the list of all of them has */
+	PAJURENDA_CONTENTS_BYTES = 40
 };
 
 /* The answer of pajurenda_release; where refused, the move is 0. */
@@ -193,17 +218,31 @@ enum {
 
 /*
  * Reads an image: number 0 and its facts, or one of the image's own refusals, which every call on an
- * image has: 1 to 12, 22, 13, 14, looked at in this order.
+ * image has: 1 to 12, 22, 13, 14, 25, 26, 27, looked at in this order.
  */
 uint32_t pajurenda_read(const uint8_t *image, size_t length,
 			uint8_t *answer, size_t answer_length);
 
 /*
- * Releases an image in place: the sheet's settings, and the move of the base word and each patch
- * word to the new base; the image's own refusals, then 15, 23, 16, 17, 24, 18. The sheet is for an
- * image by three parts: identity (its bytes 0 to 7), revision (8 to 11) and extended number (14 and
- * 15; older sheets have 0 there). The empty sheet (pajurenda_empty_sheet) moves alone, the image's
- * present base sets alone. A base of 2^32 or more isn't legal; it is never cut down.
+ * Lists an image's modules and the words that a move changes; the image's own refusals, then 20. An
+ * entry is four little-endian bytes, its place + 16,777,216 * its code: first the base word, each
+ * patch word in table order, then for each module in file order its file, the module itself, its
+ * image base and each of its relocation words in table order. Bytes after the last entry are kept.
+ * For 20 the counts are the true ones and no byte of the list is written, so that a call with a list
+ * of 0 bytes counts; 4 * entries is the length to ask again with.
+ */
+uint32_t pajurenda_contents(const uint8_t *image, size_t image_length,
+			    uint8_t *list, size_t list_length,
+			    uint8_t *answer, size_t answer_length);
+
+/*
+ * Releases an image in place: the sheet's settings, and the move of the base word, each patch word
+ * and each module's image base and relocation words to the new base; the image's own refusals, then
+ * 15, 23, 16, 17, 24, 18. Words of 4 bytes take the move modulo 2^32, words of 8 modulo 2^64; no check
+ * sum of a file or a module is mended. The sheet is for an image by three parts: identity (its bytes 0
+ * to 7), revision (8 to 11) and extended number (14 and 15; older sheets have 0 there). The empty sheet
+ * (pajurenda_empty_sheet) moves alone, the image's present base sets alone. A base of 2^32 or more
+ * isn't legal; it is never cut down.
  *
  * The owner list says which setting bytes are whose: ranges of PAJURENDA_RANGE_BYTES (offset in the
  * region, length, owner, as pajurenda_put_range writes them), none or up to PAJURENDA_MOST_RANGES, by
@@ -376,7 +415,7 @@ static inline size_t pajurenda_one_owner(const uint8_t *answer, uint16_t owner, 
 	return PAJURENDA_RANGE_BYTES;
 }
 
-/* The i-th place of the audit's list, counted from 0, as it stands there. */
+/* The i-th place of the audit's list or entry of the contents', counted from 0, as it stands there. */
 static inline uint32_t pajurenda_place(const uint8_t *places, size_t i)
 {
 	return (uint32_t)pajurenda_number(places + PAJURENDA_PLACE_BYTES * i,
@@ -393,6 +432,35 @@ static inline int pajurenda_is_stray(uint32_t place)
 static inline uint32_t pajurenda_position(uint32_t place)
 {
 	return pajurenda_is_stray(place) ? place - PAJURENDA_STRAY : place;
+}
+
+/*
+ * The code of an entry of the list of contents, PAJURENDA_CONTENT_FILE and so on; the i-th entry is
+ * pajurenda_place(list, i), as in the audit's list.
+ */
+static inline unsigned pajurenda_content(uint32_t entry)
+{
+	return (unsigned)(entry >> 24);
+}
+
+/* The place in the image that an entry of the list of contents names. */
+static inline uint32_t pajurenda_content_place(uint32_t entry)
+{
+	return entry & 0xFFFFFF;
+}
+
+/* How many bytes a word of the list of contents has, 4 or 8; 0 where the entry is no word. */
+static inline unsigned pajurenda_content_width(uint32_t entry)
+{
+	switch (pajurenda_content(entry)) {
+	case PAJURENDA_CONTENT_IMAGE_BASE_4:
+	case PAJURENDA_CONTENT_RELOCATION_4:
+	case PAJURENDA_CONTENT_BASE_WORD:
+	case PAJURENDA_CONTENT_PATCH_WORD: return 4;
+	case PAJURENDA_CONTENT_IMAGE_BASE_8:
+	case PAJURENDA_CONTENT_RELOCATION_8: return 8;
+	default: return 0;
+	}
 }
 
 /* The next cursor in the answer of pajurenda_handoff. */
@@ -472,6 +540,9 @@ static inline const char *pajurenda_name(uint32_t number)
 	case PAJURENDA_RESERVED: return "RESERVED";
 	case PAJURENDA_OWNERS: return "OWNERS";
 	case PAJURENDA_OWNER: return "OWNER";
+	case PAJURENDA_MODULE: return "MODULE";
+	case PAJURENDA_WORD: return "WORD";
+	case PAJURENDA_RELOCATION: return "RELOCATION";
 	case PAJURENDA_BLOCK: return "BLOCK";
 	case PAJURENDA_FIRST: return "FIRST";
 	case PAJURENDA_NOTHING: return "NOTHING";
@@ -517,6 +588,21 @@ static inline const char *pajurenda_image_sentence(uint32_t number)
 	}
 }
 
+/* The rules 25 to 27, for pajurenda_sentence: what is asked of the files after the tables. */
+static inline const char *pajurenda_module_sentence(uint32_t number)
+{
+	switch (number) {
+	case PAJURENDA_MODULE:
+		return "files, sections and PE32 and TE modules must be whole: a file's header sum 0, "
+		       "a module's marks, headers, data and relocation blocks in it; and no header, "
+		       "block or free end may be in the region";
+	case PAJURENDA_WORD:
+		return "a word that moves must be clear of every other, of tables, headers, relocation "
+		       "blocks, region and free end, and a module's word inside its module";
+	default: return "a relocation's type must be 0, 3 or 10";
+	}
+}
+
 /* The rules 30 to 33, for pajurenda_sentence. */
 static inline const char *pajurenda_handoff_sentence(uint32_t number)
 {
@@ -538,6 +624,8 @@ static inline const char *pajurenda_sentence(uint32_t number)
 	if ((number >= PAJURENDA_LENGTH && number <= PAJURENDA_OVERLAP) ||
 	    number == PAJURENDA_RESERVED)
 		return pajurenda_image_sentence(number);
+	if (number >= PAJURENDA_MODULE && number <= PAJURENDA_RELOCATION)
+		return pajurenda_module_sentence(number);
 	if (number >= PAJURENDA_BLOCK && number <= PAJURENDA_KIND)
 		return pajurenda_handoff_sentence(number);
 	switch (number) {
@@ -559,7 +647,7 @@ static inline const char *pajurenda_sentence(uint32_t number)
 	case PAJURENDA_OWNER:
 		return "every byte that the sheet sets must be in a range of the owner who asks";
 	case PAJURENDA_PAIR: return "the two images must be equally long";
-	case PAJURENDA_ROOM: return "the list must have a place for each difference";
+	case PAJURENDA_ROOM: return "the list must have a place for each difference, or for each entry";
 	case PAJURENDA_ORDER:
 		return "after a reset come TempRamInit or not, MemoryInit, TempRamExit where TempRamInit "
 		       "came, SiliconInit, notifications 0x20, 0x40, 0xF0; each once, in this order";

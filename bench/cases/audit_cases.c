@@ -163,4 +163,5 @@ void audit_part(void)
 	audit_several(50);
 	audit_most();
 	audit_many();
+	audit_modules();
 }

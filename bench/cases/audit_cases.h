@@ -5,6 +5,7 @@
 #include "cases.h"
 
 /* audit_ship.c */
+void ship_built(uint64_t base);
 void ship(uint64_t base);
 void turn_byte(uint64_t at, uint64_t mask);
 uint64_t turned(void);

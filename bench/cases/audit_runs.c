@@ -60,12 +60,13 @@ static void print_output(void)
 /* ---- the pairs ---- */
 
 /* A vendor image of this length and base, of header revision 6: a region of 400 bytes at 4,096, four words, one of them
-   at the very end. */
-static void build_vendor(uint64_t length, uint64_t base)
+   at the very end; a module of this kind between the words. */
+static void build_vendor(uint64_t length, uint64_t base, enum kind kind)
 {
 	const uint64_t place[] = { 4498, 4998, 6001, length - 4 };
 	static const uint64_t value[] = { 0xFFF80040, 0x12345678, 0xFFFFFFFC, 0xFFF81FF0 };
 	start_small();
+	now.module = 1 + kind;
 	now.length = length;
 	now.V = length;
 	now.base = base;
@@ -108,23 +109,27 @@ static void turn(uint64_t at, uint64_t mask)
 /* A whole pair, moved. */
 static void make_pair(uint64_t length)
 {
-	build_vendor(length, 0xFFF80000);
+	build_vendor(length, 0xFFF80000, length % 2 == 0 ? KIND_PE64 : KIND_TE);
 	ship(0x00100000);
 }
 
 /* The base with eight digits that count, and nothing else. */
 static void make_top(void)
 {
-	build_vendor(8192, 0x00100000);
+	build_vendor(8192, 0x00100000, KIND_PE32);
 	ship(0xFFF80000);
 }
 
-/* The first and the last byte, and both sides of each end of the settings. */
+/* The first and the last byte, both sides of each end of the settings, and in and beside the image base and a word of the module. */
 static void make_edges(void)
 {
-	make_pair(8192);
-	const uint64_t first = now.c + 32, end = now.c + now.z;
-	const uint64_t at[] = { 0, first - 1, first, end - 1, end, now.length - 1 };
+	build_vendor(8192, 0xFFF80000, KIND_TE);
+	ship(0x00100000);
+	const uint64_t first = now.c + 32, end = now.c + now.z, word = spot.m + inside.data + 5;
+	const uint64_t at[] = {
+		0, first - 1, first, end - 1, end, spot.m + 15, spot.m + 16, spot.m + 23, spot.m + 24,
+		word - 1, word, word + 7, word + 8, now.length - 1,
+	};
 	for (size_t i = 0; i < COUNT(at); i++)
 		turn(at[i], i + 1);
 }

@@ -63,12 +63,13 @@ static void write_file(const char *folder, const char *name, const uint8_t *byte
 		fail("a file cannot be written");
 }
 
-/* The vendor's image: 8,192 bytes, a region from 4,096 on, four words, one of them at the very end. */
+/* The vendor's image: 8,192 bytes, a region from 4,096 on in a file of its own, four words, one of them at the very end; no module. */
 static void build_vendor(void)
 {
 	const uint64_t place[] = { 4498, 4998, 6001, 8188 };
 	static const uint64_t value[] = { 0xFFF80040, 0x12345678, 0xFFFFFFFC, 0xFFF81FF0 };
 	start_small();
+	now.module = 0;
 	now.n = COUNT(place);
 	settle();
 	now.c = 4096;

@@ -6,10 +6,9 @@
 
 static uint64_t settings, strays;
 
-/* The planned image as the vendor's, the shipped file being its move. */
-void ship(uint64_t base)
+/* The image in the buffer as the vendor's, the shipped file being its move. */
+void ship_built(uint64_t base)
 {
-	build();
 	uint8_t empty[EMPTY_SHEET];
 	empty_sheet(empty);
 	memcpy(sheet, image, now.length);
@@ -17,6 +16,13 @@ void ship(uint64_t base)
 		fail("a shipped file that can't be moved");
 	settings = 0;
 	strays = 0;
+}
+
+/* The planned image as the vendor's. */
+void ship(uint64_t base)
+{
+	build();
+	ship_built(base);
 }
 
 /* "The audit": one byte of the shipped file, not turned before, differs by a mask. */

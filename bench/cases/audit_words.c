@@ -18,10 +18,10 @@ void audit_unmoved(unsigned k)
 	audit_counting(4 * now.n);
 	ship(random_base());
 	memcpy(sheet + spot.H + 28, image + spot.H + 28, 4);
-	audit_counting(4 * now.n);
+	audit_counting(4 * now.n + 32);
 	ship(now.base);
 	put_sheet(spot.H + 28, 4, random_base());
-	audit_counting(4 * now.n + 1);
+	audit_counting(4 * now.n + 33);
 	const uint64_t base = random_base();
 	ship(base);
 	const uint64_t at = place_of(1);

@@ -5,10 +5,12 @@
 #include <stdlib.h>
 
 const char letter[5] = { '?', 'T', 'M', 'S', 'I' };
-const unsigned rule[RULES] = { 1, 2, 3, 4, 5, 6, 7, 8, 9, 10, 11, 12, 22, 13, 14 };
+const unsigned rule[RULES] = { 1, 2, 3, 4, 5, 6, 7, 8, 9, 10, 11, 12, 22, 13, 14, 25, 26, 27 };
 
 struct plan now;
 struct spots spot;
+struct cover cover;
+struct module inside;
 uint8_t image[SPACE];
 uint8_t sheet[SPACE];
 uint64_t cases;
@@ -134,68 +136,91 @@ void settle(void)
 		const uint64_t place = now.before ? spot.E + 4 * k : now.c + now.z + now.room + 8 * k;
 		now.entry[k] = word(place, k % 2 == 1, k % 3 == 1 ? 15 : 0);
 	}
+	lay_files();
 }
 
-/* Refusal 3: the sum of the file's header made right again. */
-static void mend_file(void)
+/* #107: the module of the planned image: two words of four bytes, between them one of eight where the kind has such. */
+static uint64_t plan_module(void)
 {
-	uint64_t sum = 0;
-	for (uint64_t i = 0; i < 24; i++)
-		if (i < 16 || (i > 17 && i < 23))
-			sum += get(spot.f + i, 1);
-	put(spot.f + 16, 1, 256 - sum % 256);
+	if (now.module == 0)
+		return 0;
+	const enum kind kind = (enum kind)(now.module - 1);
+	start_module(&inside, kind);
+	inside.rows = 1;
+	inside.base = now.base + 0x4000;
+	lay_head(&inside, 18);
+	add_word(&inside, 4, inside.data);
+	add_word(&inside, kind == KIND_PE32 ? 4 : 8, inside.data + 5);
+	add_word(&inside, 4, inside.data + 14);
+	lay_blocks(&inside);
+	inside.row[0].size = inside.size - inside.data;
+	return FILE_HEADER + SECTION_HEADER + inside.size;
+}
+
+/* The places of the entries that point into the image. */
+static uint64_t known_places(uint64_t *place)
+{
+	uint64_t count = 0;
+	for (uint64_t k = 0; k < now.n; k++) {
+		const uint64_t low = now.entry[k] % TWO24, back = TWO24 - low;
+		if (now.entry[k] >> 31 == 0 ? low + 4 <= now.length : back <= now.length)
+			place[count++] = place_of(k);
+	}
+	return count;
+}
+
+/* #107: the files of the volume, so that headers and free end are clear of region and words; the header file may become longer. */
+void lay_files(void)
+{
+	static uint64_t place[MOST];
+	lay_out();
+	cover = (struct cover){
+		.from = spot.f + spot.s, .V = now.V, .c = now.c, .z = now.z, .place = place, .words = known_places(place),
+		.module = plan_module(), .section = now.section, .filled = now.filled,
+	};
+	lay_cover(&cover);
+	spot.s = cover.end - spot.f;
+	spot.m = cover.M == NOWHERE ? NOWHERE : cover.M + FILE_HEADER + SECTION_HEADER;
 }
 
 /* Refusal 2: the sum of the volume's header made right again. */
 void mend_volume(void)
 {
-	const uint64_t h = get(48, 2);
-	uint64_t sum = 0;
-	for (uint64_t i = 0; i + 1 < h; i += 2)
-		if (i != 50)
-			sum += get(i, 2);
-	put(50, 2, 65536 - sum % 65536);
+	sum_volume(image, SPACE);
 }
 
 /* Refusals 2 and 3: both sums made right again. */
 void mend(void)
 {
-	mend_file();
+	sum_file(image, spot.f);
 	mend_volume();
 }
 
 /* Bytes no rule speaks of are not zero, so that a reading of a wrong byte shows. */
-static void put_background(void)
+void put_background(void)
 {
 	for (uint64_t i = 0; i < SPACE; i++)
 		image[i] = i % 65536 < now.fill ? (uint8_t)(i * 37 + 11) : 0;
 }
 
-/* Refusal 2: V, the mark, h, x and e. */
-static void put_volume(void)
-{
-	put(32, 8, now.V);
-	text(40, "_FVH");
-	put(48, 2, now.h);
-	put(52, 2, now.x);
-	if (now.x != 0)
-		put(now.x + 16, 4, now.e);
-}
-
-/* Refusals 3 and 4: the file and the section. */
+/* Refusals 3, 4 and 25: the header file with its section; it has no sections to walk where more follows the first. */
 static void put_file(void)
 {
-	static const uint8_t name[16] = {
-		0xBE, 0x40, 0x27, 0x91, 0x84, 0x22, 0x34, 0x47,
-		0xB9, 0x71, 0x84, 0xB0, 0x27, 0x35, 0x3F, 0x0C,
-	};
-	for (uint64_t i = 0; i < 16; i++)
-		put(spot.f + i, 1, name[i]);
-	put(spot.f + 17, 3, 0x0001AA);
-	put(spot.f + 20, 3, spot.s);
-	put(spot.f + 23, 1, 0xF8);
-	put(spot.f + 24, 3, spot.S);
-	put(spot.f + 27, 1, 0x19);
+	const unsigned type = spot.s == FILE_HEADER + spot.S ? TYPE_FREEFORM : TYPE_RAW;
+	make_file(image, spot.f, spot.s, type, NAME_HEADER_FILE);
+	make_section(image, spot.f + FILE_HEADER, spot.S, HOLDS_RAW);
+}
+
+/* #107: the further files, the module's too. */
+static void put_files(void)
+{
+	make_cover(&cover, image);
+	if (spot.m == NOWHERE)
+		return;
+	const uint64_t size = SECTION_HEADER + inside.size;
+	make_file(image, cover.M, FILE_HEADER + size, TYPE_PEIM, 7);
+	make_section(image, cover.M + FILE_HEADER, size, holder_of(inside.kind));
+	make_module(&inside, image + spot.m);
 }
 
 /* Refusals 5 to 8 and 10: the header. */
@@ -238,16 +263,24 @@ void put_marks(uint64_t c)
 	put(c + 7, 1, (uint8_t)letter[now.component]);
 }
 
-/* The planned image in the buffer. */
-void build(void)
+/* The volume's header, the header file, the region's marks. */
+void put_parts(void)
 {
-	put_background();
-	put_volume();
+	make_volume(image, now.V, now.h, now.x, now.e);
 	put_file();
 	put_header();
 	put_marks(now.c);
 	put_table();
 	mend();
+}
+
+/* The planned image in the buffer. */
+void build(void)
+{
+	lay_files();
+	put_background();
+	put_files();
+	put_parts();
 }
 
 /* The plan all others start from. */
@@ -258,7 +291,7 @@ void start_small(void)
 		.header_revision = 3, .component = 1,
 		.identity = UINT64_C(0x31302D5441455254), .revision = 0x01020304,
 		.base = 0xFFF80000, .n = 3, .table_length = 24, .gap = 64, .z = 64,
-		.room = 64, .fill = 768,
+		.room = 64, .fill = 768, .module = 1 + KIND_TE, .filled = true,
 	};
 }
 
@@ -308,18 +341,40 @@ uint64_t random_base(void)
 	return below(highest_base() / 4096 + 1) * 4096;
 }
 
-/* The layout, the image ending some bytes after its last part. */
-void fit(uint64_t tail)
+/* #107: V after the last part that is in the volume, the words being there or not. */
+static void fit_volume(bool with_words)
 {
+	const uint64_t n = now.n;
+	now.length = now.V = SPACE;
 	settle();
-	now.length = now.c + now.z + tail;
-	if (!now.before)
-		now.length += now.room + 8 * now.n;
-	now.V = now.component % 2 == 0 ? spot.f + spot.s : now.length;
-	settle();
+	now.n = with_words ? n : 0;
+	lay_files();
+	now.n = n;
+	const struct covering *last = &cover.file[cover.files - 1];
+	now.V = cover.files == 0 ? spot.f + spot.s : last->at == cover.M ? last->end : cover.free;
 }
 
-/* Eight small plans: FSPE and a revision of 6 or more (bit 0), an extension (bit 1), words before the region (bit 2). */
+/* The layout, the image ending some bytes after its last part: with the volume, in a file that goes on to its end (components 1 and 3), or
+   after the words that follow the volume. */
+void fit(uint64_t tail)
+{
+	const uint64_t room = now.room;
+	now.filled = false;
+	fit_volume(now.before || now.component % 2 == 1);
+	if (now.component % 2 == 1) {
+		now.filled = true;
+		now.V += FILE_HEADER + tail;
+		now.length = now.V;
+	} else {
+		now.V += now.free;
+		now.room = now.before ? room : now.V - now.c - now.z + room;
+		now.length = now.V + (now.before ? 0 : room + 8 * now.n) + tail;
+	}
+	settle();
+	now.room = room;
+}
+
+/* Eight small plans: FSPE and a revision of 6 or more (bit 0), an extension (bit 1), words before the region (bit 2). Each has a module. */
 void small(unsigned k)
 {
 	static const uint64_t header_revision[SMALLS] = { 3, 6, 5, 7, 4, 255, 5, 6 };
@@ -327,7 +382,12 @@ void small(unsigned k)
 	static const uint64_t base[SMALLS] = {
 		0xFFF80000, 0x00100000, 0, 0xFFFFF000, 0x80000000, 0x7FFFF000, 0x1000, 0xFFFFE000,
 	};
+	static const enum kind kind[SMALLS] = { KIND_TE, KIND_PE32, KIND_TE, KIND_PE64, KIND_TE, KIND_TE, KIND_PE32, KIND_TE };
+	static const uint64_t free_bytes[SMALLS] = { 0, 8, 0, 1, 0, 24, 0, 7 };
 	start_small();
+	now.module = 1 + kind[k];
+	now.free = free_bytes[k];
+	now.section = k % 3 == 0;
 	now.component = k % 4 + 1;
 	now.base = base[k];
 	now.header_revision = header_revision[k];
@@ -338,7 +398,7 @@ void small(unsigned k)
 		now.x = 72 + k, now.e = 20 + k;
 	now.before = k / 4 == 1;
 	now.n = 3 + k % 2;
-	now.gap = 12 + k;
+	now.gap = 36 + k;
 	now.z = 40 + 3 * k;
 	now.room = 8 + k;
 	now.identity += k * UINT64_C(0x0100000001000001);
@@ -379,7 +439,7 @@ void random_small(void)
 	now.low12 = below(4096);
 	now.identity = below(UINT64_C(1) << 47) * 131071;
 	now.revision = below(TWO32);
-	now.gap = below(24);
+	now.gap = below(60);
 	now.z = 32 + below(80);
 	now.room = below(12);
 	fit(below(40));
@@ -406,6 +466,9 @@ void break_rule(unsigned number)
 	case 13: put(spot.p + 12, 4, 0xFFFFFFFE); break;
 	case 14: put(spot.p + 12 + 8, 4, word(now.c + 1, false, 0)); break;
 	case 22: put(spot.p + 12 + 8, 4, reserved(get(spot.p + 12 + 8, 4), 2)); break;
+	case 25: put(spot.m + 1, 1, 'z'); break;
+	case 26: put(spot.m + inside.blocks + 10, 2, get(spot.m + inside.blocks + 8, 2)); break;
+	case 27: put(spot.m + inside.blocks + 13, 1, 0x50); break;
 	default: break;
 	}
 }

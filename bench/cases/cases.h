@@ -7,6 +7,10 @@
 #include <stdint.h>
 #include <stdio.h>
 
+#include "../make/cover.h"
+#include "../make/files.h"
+#include "../make/module.h"
+
 #define SPACE UINT64_C(131072)
 #define OWNERS_SPACE UINT64_C(4096)
 #define MOST 1025
@@ -16,20 +20,22 @@
 #define TWO63 UINT64_C(0x8000000000000000)
 #define COUNT(list) (sizeof(list) / sizeof((list)[0]))
 
-/* What an image is built from, in the letters of document 01. */
+/* What an image is built from, in the letters of document 01. #107: module is 0, or 1 more than its kind; section: the region's file has
+   a section; filled: the last file goes on to V; free: the bytes that fit leaves free at V's end. */
 struct plan {
 	uint64_t length, V, h, x, e;
 	uint64_t L, guard, more_section, more_file;
 	uint64_t header_revision, component, low12, identity, revision, extended, base;
 	uint64_t n, table_length, table_reserved;
 	uint64_t gap, c, z, room, fill;
-	bool before;
+	uint64_t module, free;
+	bool before, section, filled;
 	uint64_t entry[MOST];
 };
 
-/* Where the parts of the planned image stand; g is the place of FSPE, or p without one. */
+/* Where the parts of the planned image stand; g is the place of FSPE, or p without one; m is the module's first byte, or NOWHERE. */
 struct spots {
-	uint64_t f, s, S, H, g, p, E;
+	uint64_t f, s, S, H, g, p, E, m;
 };
 
 /* build.c: buffer 0 (the image or vendor image), buffer 1 (the sheet or shipped file), the plan. */
@@ -37,6 +43,8 @@ extern uint8_t image[SPACE];
 extern uint8_t sheet[SPACE];
 extern struct plan now;
 extern struct spots spot;
+extern struct cover cover;
+extern struct module inside;
 extern const char letter[5];
 extern uint64_t cases;
 
@@ -59,11 +67,14 @@ void empty_sheet(uint8_t *bytes);
 void draw_revision(void);
 uint64_t random_base(void);
 void lay_out(void);
+void lay_files(void);
 void settle(void);
 void fit(uint64_t tail);
 void mend_volume(void);
 void mend(void);
 void put_marks(uint64_t c);
+void put_background(void);
+void put_parts(void);
 void build(void);
 void start_small(void);
 void small(unsigned k);
@@ -73,8 +84,8 @@ void break_rule(unsigned number);
 uint64_t broken_index(unsigned number);
 uint64_t build_broken(unsigned number);
 
-/* The image's refusals in the order of judging, 22 after 12. */
-#define RULES 15
+/* The image's refusals in the order of judging, 22 after 12, those of #107 last. */
+#define RULES 18
 extern const unsigned rule[RULES];
 
 #define SMALLS 8
@@ -102,7 +113,7 @@ void send_case(const struct order *order);
 void change_image(const uint8_t *bytes, uint64_t len);
 
 /* calls.c: one case of each call, with the number and index it is aimed at. */
-#define NUMBERS 25
+#define NUMBERS 28
 
 extern FILE *answers;
 extern uint64_t given[CALLS][NUMBERS];
@@ -129,6 +140,8 @@ void release_moves(void);
 void release_sheets(void);
 void release_both(void);
 void release_owners(void);
+void release_modules(void);
+void audit_modules(void);
 void setting_part(void);
 void audit_part(void);
 

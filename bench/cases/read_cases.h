@@ -76,6 +76,9 @@ void reserved_words(unsigned k);
 void reserved_tables(unsigned k);
 void reserved_beside(unsigned k);
 
+/* module_order.c: the readings of #107. */
+void read_modules(void);
+
 /* read_random.c */
 void several_rules(void);
 void cut_lengths(unsigned k);

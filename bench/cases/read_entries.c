@@ -77,9 +77,10 @@ void damage_twice(unsigned k)
 		for (uint64_t d = 0; d < 11; d++) {
 			const bool apart = d < 2 || d > 8;
 			const bool back = (d + i + k) % 2 == 0;
+			start(k);
+			now.entry[pair[i][0]] = word(place, back, 0);
+			now.entry[pair[i][1]] = word(place + d - 5, d % 3 == 0, 15);
 			build();
-			put(spot.p + 12 + 4 * pair[i][0], 4, word(place, back, 0));
-			put(spot.p + 12 + 4 * pair[i][1], 4, word(place + d - 5, d % 3 == 0, 15));
 			show(now.length, apart ? 0 : 14, apart ? 0 : pair[i][1]);
 		}
 	}
@@ -99,9 +100,9 @@ void damage_between(unsigned k)
 	};
 	for (size_t i = 0; i < COUNT(place); i++) {
 		const uint64_t index = place[i][3];
-		build();
 		for (uint64_t j = 0; j < 3; j++)
-			put(spot.p + 12 + 4 * j, 4, word(place[i][j], (i + j) % 2 == 0, 0));
+			now.entry[j] = word(place[i][j], (i + j) % 2 == 0, 0);
+		build();
 		show(now.length, index == 9 ? 0 : 14, index == 9 ? 0 : index);
 	}
 }

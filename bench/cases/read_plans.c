@@ -74,10 +74,12 @@ void turn_raw(uint64_t at, uint64_t mask, uint64_t number)
 	show(now.length, number, 0);
 }
 
-/* One entry replaced. */
+/* One entry replaced; the files are laid for it. */
 void entry(uint64_t k, uint64_t value, uint64_t number)
 {
+	const uint64_t kept = now.entry[k];
+	now.entry[k] = value;
 	build();
-	put(spot.p + 12 + 4 * k, 4, value);
 	show(now.length, number, number == 22 || (number >= 12 && number <= 14) ? k : 0);
+	now.entry[k] = kept;
 }

@@ -40,11 +40,11 @@ void cut_lengths(unsigned k)
 	start(k);
 	const uint64_t last = now.c + now.z + 64 + 8 * now.n + 8;
 	for (uint64_t len = spot.f + 20; len < last; len += 1 + below(9)) {
-		build();
-		put(32, 8, len);
+		start(k);
+		now.V = len;
 		if (len % 2 == 0)
-			put(spot.H + 24, 4, len);
-		mend();
+			now.length = len;
+		build();
 		show(len, ANY, 0);
 	}
 }
@@ -76,13 +76,14 @@ void random_lengths(unsigned k)
 	start(k);
 	for (unsigned i = 0; i < 16; i++) {
 		const uint64_t len = i % 2 == 0 ? below(now.length) : now.length + below(SPACE - now.length + 1);
-		build();
+		const struct plan kept = now;
 		if (i % 3 != 0) {
-			put(32, 8, len > now.V ? now.V : len);
-			put(spot.H + 24, 4, len);
-			mend();
+			now.V = len > now.V ? now.V : len;
+			now.length = len;
 		}
+		build();
 		show(len, ANY, 0);
+		now = kept;
 	}
 }
 
@@ -128,7 +129,7 @@ static void random_parts(void)
 	now.table_length = below(65536);
 	now.table_reserved = below(256);
 	now.before = below(2) == 0;
-	now.gap = below(24);
+	now.gap = below(60);
 	now.z = 32 + below(60);
 }
 

@@ -143,15 +143,19 @@ void damage_extended_odd(unsigned k)
 
 /* ---- refusals 10 and 11 ---- */
 
-/* Refusal 10: one region, its marks standing where it says. */
+/* Refusal 10: one region, its marks standing where it says; the files are laid for it where it can be one. */
 static void region(uint64_t c, uint64_t z, uint64_t number)
 {
+	const struct plan kept = now;
+	if (number == 0)
+		now.c = c, now.z = z;
 	build();
 	put(spot.H + 36, 4, c);
 	put(spot.H + 40, 4, z);
 	if (c <= SPACE - 8 && c + 6 >= spot.E)
 		put_marks(c);
 	show(now.length, number, 0);
+	now = kept;
 }
 
 /* Refusal 10: z and c at their bounds and near 2^32. */

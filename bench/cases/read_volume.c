@@ -65,13 +65,22 @@ void damage_volume(unsigned k)
 	hit(48, 2, now.V + 2, 2);
 }
 
+/* Refusal 2: another V, the files being laid for it. */
+static void volume_of(uint64_t V, uint64_t number)
+{
+	const uint64_t kept = now.V;
+	now.V = V;
+	plain(number);
+	now.V = kept;
+}
+
 /* Refusal 2: V against h and the length, and its high half. */
 void damage_volume_length(unsigned k)
 {
 	start(k);
-	hit(32, 8, now.length, 0);
+	volume_of(now.length, 0);
 	hit(32, 8, now.length + 1, 2);
-	hit(32, 8, now.length - 1, 0);
+	volume_of(now.length - 1, 0);
 	hit(32, 8, now.h, now.x == 0 ? 3 : 2);
 	hit(32, 8, now.h - 1, 2);
 	hit(32, 8, now.h - 2, 2);
@@ -273,12 +282,17 @@ void damage_file_length(unsigned k)
 	hit(spot.f + 20, 3, 27, 3);
 	hit(spot.f + 20, 3, 28, 4);
 	hit(spot.f + 20, 3, 29, 4);
-	hit(spot.f + 20, 3, now.V - spot.f, 0);
+	build();
+	put(spot.f + 18, 1, TYPE_RAW);
+	put(spot.f + 20, 3, now.V - spot.f);
+	mend();
+	show(now.length, 0, 0);
 	hit(spot.f + 20, 3, now.V - spot.f + 1, 3);
 	hit(spot.f + 20, 3, 0xFFFFFF, 3);
 	hit(spot.f + 20, 3, spot.s + 0x800000, 3);
-	hit(spot.f + 20, 3, spot.s - now.more_file, 0);
 	hit(spot.f + 20, 3, spot.s - now.more_file - 1, 4);
+	now.more_file = 0;
+	anew(0);
 }
 
 /* Refusal 3: a whole file standing eight bytes off, or before round8. */

@@ -217,7 +217,7 @@ void whole_tight(void)
 			now.z = 32;
 			settle();
 			now.length = now.c + now.z;
-			now.V = i % 2 == 0 ? now.length : spot.f + spot.s;
+			now.V = i % 2 == 0 ? now.length : spot.f + FILE_HEADER + spot.S + now.more_file;
 			now.base = (TWO32 - now.length) / 4096 * 4096;
 			anew(0);
 			hit(spot.H + 28, 4, now.base + 4096, now.base == 0xFFFFF000 ? 0 : 8);

@@ -248,4 +248,5 @@ void release_part(void)
 	release_sheets();
 	release_both();
 	release_owners();
+	release_modules();
 }

@@ -29,6 +29,15 @@ static uint8_t draw_byte(void)
 	return below(2) == 0 ? edges[below(sizeof edges)] : (uint8_t)below(256);
 }
 
+/* Stands in for the library, which 25 to 27 ask about copies of the file: any answer. */
+uint32_t pajurenda_read(const uint8_t *image, size_t length, uint8_t *answer, size_t answer_length)
+{
+	(void)length;
+	(void)answer;
+	(void)answer_length;
+	return (uint32_t)(below(2) == 0 ? 25 + below(3) : image[0]);
+}
+
 /* The image cut somewhere and changed here and there, or random bytes of any small length. */
 static struct bytes draw(const struct bytes *image)
 {
@@ -62,6 +71,8 @@ static void refuse_all(const struct named *file, const struct named *other)
 	for (uint32_t number = 1; number <= 14; number++)
 		refuse_image(number, number < 12 ? 0 : below(below(2) == 0 ? 5 : 1024), file);
 	refuse_image(PAJURENDA_RESERVED, below(below(2) == 0 ? 5 : 1024), file);
+	for (uint32_t number = PAJURENDA_MODULE; number <= PAJURENDA_RELOCATION; number++)
+		refuse_image(number, 0, file);
 	for (uint32_t number = 30; number <= 33; number++)
 		refuse_handoff(number, below(below(2) == 0 ? 300 : UINT64_MAX), file);
 	refuse_sheet(file);

@@ -43,11 +43,13 @@ try_any_bytes() {
 	what='refusals of any bytes'
 	# shellcheck disable=SC2086
 	"${CC:-cc}" -std=c11 -Wall -Wextra -Wconversion -Werror $checked -I"$root/include" -I"$root/command" "$here/any_bytes.c" \
-		"$root/command/refusals.c" "$root/command/refused_image.c" "$root/command/refused_sheet.c" "$root/command/refused_handoff.c" \
+		"$root/command/refusals.c" "$root/command/refused_image.c" "$root/command/refused_modules.c" "$root/command/modules.c" "$root/command/refused_sheet.c" "$root/command/refused_handoff.c" \
 		"$root/command/refused_owners.c" "$root/command/owners.c" "$root/command/files.c" "$root/command/text.c" "$root/command/numbers.c" \
 		"$root/command/letters.c" "$root/command/show.c" "$root/command/messages.c" -o "$work/any_bytes" || fail "it does not compile"
-	"$work/any_bytes" "$vendor" "$seed" 5000 2>"$work/err" || fail "ended with $?"
-	passed
+	for image in "$vendor" "$root/crates/audit_runs/data/1/vendor.bin"; do
+		"$work/any_bytes" "$image" "$seed" 3000 2>"$work/err" || fail "ended with $?"
+		passed
+	done
 }
 
 # the page speaks of every subcommand, option and refusal that the help has, of every line of a reading, and of this version

@@ -29,7 +29,7 @@ offers '' help sheet ''
 offers '' help owners ''
 offers 'handoff|help' h
 offers '' help read ''
-offers '--help|--json|--words' read -
+offers '--help|--json|--modules|--words' read -
 offers '--bytes|--help|--json|--list|--ranges|--report|--reports|--text' audit -
 offers '--help|--json|--list|--owner|--owners|--report|--reports|--text' verify -
 offers '1|2' verify --owner ''

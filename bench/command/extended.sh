@@ -2,18 +2,21 @@
 # The extended number, the third part of an image's identity: H+76 from header revision 6 on, where the FSP header has 80 bytes or more.
 
 # The sample's vendor image has room for 72 bytes of header. The same with room for 80: the patch table from 180 to 208, section and file
-# eight bytes longer, the file's sum made right at 88. round4 puts the table at 180 for 79 bytes of header too.
+# eight bytes longer, the pad file after it as much shorter, both files' sums made right. round4 puts the table at 180 for 79 bytes of header too.
 make_longer() {
 	{
 		head -c 172 "$vendor"
 		printf '\000\000\000\000\000\000\000\000'
-		tail -c +173 "$vendor" | head -c 28
-		tail -c +209 "$vendor"
+		tail -c +173 "$vendor" | head -c 52
+		tail -c +233 "$vendor"
 	} >"$work/longer"
 	sum=$(od -An -tu1 -j88 -N1 "$vendor")
 	poke "$work/longer" 88 "\\$(printf %o $((sum - 8)))"
 	poke "$work/longer" 92 '\210'
 	poke "$work/longer" 96 '\160'
+	sum=$(od -An -tu1 -j216 -N1 "$vendor")
+	poke "$work/longer" 224 "\\$(printf %o $(((sum + 8) % 256)))"
+	poke "$work/longer" 228 '\030'
 	[ "$(wc -c <"$work/longer")" -eq 8192 ] || fail "another length"
 }
 
@@ -27,7 +30,8 @@ sheet_of() { changed good "$1" 14 "$2" 15 "$3"; }
 reads() {
 	works 0 read "$1"
 	prints 'length 8192' 'component T' 'identity 54524541542D3031 "TREAT-01"' 'revision 0x01020304' "extended $2" "version $3" \
-		'base 0xFFF80000' 'header 100' 'patches 4' 'end 208' 'region c 4096 z 400'
+		'base 0xFFF80000' 'header 100' 'patches 4' 'end 208' 'region c 4096 z 400' 'modules 0' \
+		'words 5 (base word 1, patch words 4, image bases 0, relocation words 0)'
 }
 
 # parts EXTENDED VERSION: the sample's three parts with that number

@@ -16,11 +16,11 @@ static void check(int right, const char *what)
 	wrong++;
 }
 
-/* The names, 0 to 24; 21 has none. */
+/* The names, 0 to 27; 21 has none. */
 static const char *const names[] = {
 	"ACCEPTED", "LENGTH", "VOLUME", "FILE", "SECTION", "HEADER", "SIZE", "COMPONENT", "BASE", "TABLE", "CONFIG",
 	"UPD", "TYPE", "PLACE", "OVERLAP", "SHEET", "IDENTITY", "FIELD", "NEWBASE", "PAIR", "ROOM",
-	"unknown", "RESERVED", "OWNERS", "OWNER",
+	"unknown", "RESERVED", "OWNERS", "OWNER", "MODULE", "WORD", "RELOCATION",
 };
 
 /* The names of 30 to 33, and of the kinds of blocks. */
@@ -76,7 +76,7 @@ static void try_station(void)
 /* Each number has its name and a sentence that no other has. */
 static void try_numbers(void)
 {
-	for (uint32_t i = 0; i <= 24; i++) {
+	for (uint32_t i = 0; i <= 27; i++) {
 		check(strcmp(pajurenda_name(i), names[i]) == 0, "a name");
 		check(pajurenda_has_index(i) == (i == 12 || i == 13 || i == 14 || i == 22), "an index");
 		if (i == 21)
@@ -87,7 +87,7 @@ static void try_numbers(void)
 	}
 	check(strcmp(pajurenda_name(PAJURENDA_SHORT), "SHORT") == 0, "the name of 100");
 	check(strcmp(pajurenda_sentence(PAJURENDA_SHORT), "unknown") != 0, "the sentence of 100");
-	static const uint32_t others[] = { 21, 25, 29, 34, 39, 42, 99, 101, 65536, 65537, 4294967295u };
+	static const uint32_t others[] = { 21, 28, 29, 34, 39, 42, 99, 101, 65536, 65537, 4294967295u };
 	for (size_t i = 0; i < sizeof others / sizeof others[0]; i++) {
 		check(strcmp(pajurenda_name(others[i]), "unknown") == 0, "a name of no answer");
 		check(strcmp(pajurenda_sentence(others[i]), "unknown") == 0, "a sentence of no answer");
@@ -203,6 +203,21 @@ static void try_place(uint32_t stored, int stray, uint32_t position)
 	check(pajurenda_position(pajurenda_place(places, 1)) == position, "a position");
 }
 
+/* An entry of the list of contents: its code, its place, and how wide its word is. */
+static void try_contents(void)
+{
+	static const unsigned widths[] = { 0, 0, 0, 4, 8, 4, 8, 4, 4, 0 };
+	for (unsigned code = 0; code < sizeof widths / sizeof widths[0]; code++)
+		for (uint32_t place = 0; place < 0x1000000; place += 0xFFFFFF) {
+			const uint32_t entry = (uint32_t)code << 24 | place;
+			check(pajurenda_content(entry) == code && pajurenda_content_place(entry) == place, "an entry's code and place");
+			check(pajurenda_content_width(entry) == widths[code], "a word's width");
+		}
+	check(pajurenda_content_width(0xFFFFFFFFu) == 0 && pajurenda_content(0xFFFFFFFFu) == 255, "an entry of no code");
+	check(PAJURENDA_CONTENTS_ENTRIES + 8 == PAJURENDA_CONTENTS_BYTES, "the length of the contents' answer");
+	check(PAJURENDA_CONTENT_FILE == 1 && PAJURENDA_CONTENT_PATCH_WORD == 8, "the first and the last code");
+}
+
 /* The version's parts make up the whole. */
 static void try_version(void)
 {
@@ -224,6 +239,7 @@ int main(void)
 	try_place(16777215, 0, 16777215);
 	try_place(16777216, 1, 0);
 	try_place(33554431, 1, 16777215);
+	try_contents();
 	try_version();
 	printf("%d\n", checks);
 	return wrong == 0 ? 0 : 1;

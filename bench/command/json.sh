@@ -29,20 +29,23 @@ def parts(d, version):
     print("extended " + hexed(d["extended"], 4) + version + d["version"])
 PARTS = ["identity", "identity_text", "revision", "extended", "version"]
 def read(d):
-    words = ["base_word", "patch_words"] if "base_word" in d else []
-    has(d, "command", "file", "number", "name", "index", "length", "component", *PARTS, "base", "header", "patches", "end", "region", *words)
+    words = ["base_word", "patch_words", "module_words"] if "base_word" in d else []
+    has(d, "command", "file", "number", "name", "index", "length", "component", *PARTS, "base", "header", "patches", "end", "region", "modules", "words",
+        "relocation_words", *words)
     print("length %d\ncomponent %s" % (whole(d["length"]), d["component"]))
     parts(d, "\nversion ")
     print("base %s\nheader %d\npatches %d\nend %d" % (hexed(d["base"], 8), whole(d["header"]), whole(d["patches"]), whole(d["end"])))
     has(d["region"], "place", "size")
     print("region c %d z %d" % (whole(d["region"]["place"]), whole(d["region"]["size"])))
+    print("modules %d\nwords %d (base word 1, patch words %d, image bases %d, relocation words %d)" % (whole(d["modules"]), whole(d["words"]), d["patches"],
+          d["modules"], whole(d["relocation_words"])))
     for word in [d["base_word"]] if words else []:
-        has(word, "place", "value")
-        print("base word at %d is %s" % (whole(word["place"]), hexed(word["value"], 8)))
+        has(word, "place", "width", "value")
+        print("base word at %d width %d is %s" % (whole(word["place"]), whole(word["width"]), hexed(word["value"], 8)))
     for n, word in enumerate(d["patch_words"] if words else []):
-        has(word, "index", "entry", "place", "value")
+        has(word, "index", "entry", "place", "width", "value")
         assert word["index"] == n
-        print("patch word %d entry %s at %d is %s" % (n, hexed(word["entry"], 8), whole(word["place"]), hexed(word["value"], 8)))
+        print("patch word %d entry %s at %d width %d is %s" % (n, hexed(word["entry"], 8), whole(word["place"]), whole(word["width"]), hexed(word["value"], 8)))
 def sheet(d):
     has(d, "command", "sheet", "image", "number", "name", "index", *PARTS, "length", "entries")
     parts(d, " # version ")
@@ -60,8 +63,9 @@ def sheet(d):
     print("# entries %d" % len(d["entries"]) + (", of which %d would change the image" % changing if beside else ""))
 def ranges(d, verify):
     for r in d["ranges"]:
-        has(r, "kind", "first", "last", "length", "place", "offset", "index", "should", "is", *(["set_by", "makers"] if verify else []))
+        has(r, "kind", "first", "last", "length", "place", "offset", "index", "module", "file", "should", "is", *(["set_by", "makers"] if verify else []))
         assert whole(r["last"]) - whole(r["first"]) + 1 == whole(r["length"]) == len(octets(r["should"])) // 2 == len(octets(r["is"])) // 2
+        assert r["module"] is None and r["file"] is None
         assert (r["place"] == "settings") == (r["offset"] is not None) == (r["kind"] == "setting") and (r["place"] == "patch word") == (r["index"] is not None)
         place = {"settings": "region offset %s" % r["offset"], "patch word": "patch word %s" % r["index"]}.get(r["place"], r["place"])
         line = "%s %d..%d length %d %s should %s is %s" % ("S" if r["kind"] == "setting" else "X", r["first"], r["last"], r["length"], place, r["should"], r["is"])
@@ -153,7 +157,7 @@ try_read_json() {
 	prints '{' '  "command": "read",' "  \"file\": \"$vendor\"," '  "number": 0,' '  "name": "ACCEPTED",' '  "index": 0,' '  "length": 8192,' \
 		'  "component": "T",' '  "identity": "54524541542D3031",' '  "identity_text": "TREAT-01",' '  "revision": "0x01020304",' \
 		'  "extended": "0x0000",' '  "version": "1.2.3.4",' '  "base": "0xFFF80000",' '  "header": 100,' '  "patches": 4,' '  "end": 200,' \
-		'  "region": {"place": 4096, "size": 400}' '}'
+		'  "region": {"place": 4096, "size": 400},' '  "modules": 0,' '  "words": 5,' '  "relocation_words": 0' '}'
 	said_refused 14 2 '' read "$refused"
 	said_refused 1 0 '' read "$work/empty"
 	works 0 read --json "$vendor" --words
@@ -260,7 +264,7 @@ try_json_names_told() {
 	cd "$i"
 	what='docs/json.md'
 	{
-		run read --json --words v
+		run read --json --words --modules "$root/crates/audit_runs/data/1/vendor.bin"
 		run sheet show --json one.sheet v
 		run audit --json r s || :
 		run verify --json v one.sheet t || :

@@ -47,9 +47,9 @@ try_volume() {
 	image b 39 '\377'
 	values 2 b 'mark "_FVH", h 72, V 18374686479671631872, sum 0xFF00, x 0, the file has 8192 bytes' read b
 	image b 52 '\110'
-	values 2 b 'mark "_FVH", h 72, V 8192, sum 0x0048, x 72, e 109219, the file has 8192 bytes' read b
+	values 2 b 'mark "_FVH", h 72, V 8192, sum 0x0048, x 72, e 174754, the file has 8192 bytes' read b
 	image b 52 '\110' 88 '\023\001'
-	values 2 b 'mark "_FVH", h 72, V 8192, sum 0x0048, x 72, e 65811, the file has 8192 bytes' read b
+	values 2 b 'mark "_FVH", h 72, V 8192, sum 0x0048, x 72, e 131347, the file has 8192 bytes' read b
 	image b 52 '\377\377'
 	values 2 b 'mark "_FVH", h 72, V 8192, sum 0xFFFF, x 65535, the file has 8192 bytes' read b
 	head -c 72 "$vendor" >b
@@ -142,7 +142,7 @@ try_table() {
 	image b 180 '\377\377\377\377'
 	values 9 b 'mark "FSPP" at p 172, revision 1, n 4294967295, E 17179869364, the section ends at 200' read b
 	image b 175 'E\025\000\000\000'
-	values 9 b 'FSPE at 172 of length 21, mark FCFFFFFF at p 196, revision 61, n 4140936327, E 16563745516, the section ends at 200' read b
+	values 9 b 'FSPE at 172 of length 21, mark FCFFFFFF at p 196, revision 255, n 4294967295, E 17179869388, the section ends at 200' read b
 	image b 175 'E\377\377\377\377'
 	values 9 b 'FSPE at 172 of length 4294967295, mark past the file'"'"'s end at p 4294967468, the section ends at 200' read b
 }

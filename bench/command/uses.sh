@@ -4,7 +4,8 @@
 try_read() {
 	works 0 read "$vendor"
 	prints 'length 8192' 'component T' 'identity 54524541542D3031 "TREAT-01"' 'revision 0x01020304' 'extended 0x0000' 'version 1.2.3.4' \
-		'base 0xFFF80000' 'header 100' 'patches 4' 'end 200' 'region c 4096 z 400'
+		'base 0xFFF80000' 'header 100' 'patches 4' 'end 200' 'region c 4096 z 400' 'modules 0' \
+		'words 5 (base word 1, patch words 4, image bases 0, relocation words 0)'
 	cp "$work/out" "$work/wanted_reading"
 	what='read /dev/stdin, a pipe'
 	got=0
@@ -19,7 +20,8 @@ try_read_forms() {
 	poked "$vendor" "$i/named" 116 '\040"%%\\~az0' 112 '\007\000\000\000' 128 '\000\020\000\000' 135 '\100' 4103 'I'
 	works 0 read "$i/named"
 	prints 'length 8192' 'component I' 'identity 2022255C7E617A30 " "%\~az0"' 'revision 0x00000007' 'extended 0x0000' 'version 0.0.0.7' \
-		'base 0x00001000' 'header 100' 'patches 4' 'end 200' 'region c 4096 z 400'
+		'base 0x00001000' 'header 100' 'patches 4' 'end 200' 'region c 4096 z 400' 'modules 0' \
+		'words 5 (base word 1, patch words 4, image bases 0, relocation words 0)'
 	for byte in 037 177 200 000 033; do
 		poked "$vendor" "$i/unprintable" 123 "\\$byte"
 		works 0 read "$i/unprintable"
@@ -30,16 +32,16 @@ try_read_forms() {
 
 try_read_words() {
 	works 0 read --words "$vendor"
-	head -n 11 "$work/out" >"$work/first"
+	head -n 13 "$work/out" >"$work/first"
 	same "$work/first" "$work/wanted_reading"
-	sed 1,11d "$work/out" >"$work/rest"
-	lines 'base word at 128 is 0xFFF80000' 'patch word 0 entry 0x00001192 at 4498 is 0xFFF80040' \
-		'patch word 1 entry 0x00001386 at 4998 is 0x12345678' 'patch word 2 entry 0xFFFFF771 at 6001 is 0xFFFFFFFC' \
-		'patch word 3 entry 0xFFFFFFFC at 8188 is 0xFFF81FF0'
+	sed 1,13d "$work/out" >"$work/rest"
+	lines 'base word at 128 width 4 is 0xFFF80000' 'patch word 0 entry 0x00001192 at 4498 width 4 is 0xFFF80040' \
+		'patch word 1 entry 0x00001386 at 4998 width 4 is 0x12345678' 'patch word 2 entry 0xFFFFF771 at 6001 width 4 is 0xFFFFFFFC' \
+		'patch word 3 entry 0xFFFFFFFC at 8188 width 4 is 0xFFF81FF0'
 	same "$work/rest" "$work/wanted"
 	poked "$vendor" "$i/none" 180 '\000'
 	works 0 read --words "$i/none"
-	[ "$(sed 1,11d "$work/out")" = 'base word at 128 is 0xFFF80000' ] || fail "words of an image without entries"
+	[ "$(sed 1,13d "$work/out")" = 'base word at 128 width 4 is 0xFFF80000' ] || fail "words of an image without entries"
 	passed
 }
 
@@ -162,7 +164,7 @@ try_base_again() {
 		works 0 release "$all" --owner=1 "$o/again" "$work/nothing" "$shown" "$o/same"
 		prints "base $base" 'move 0' 'entries 0'
 		works 0 read --words "$o/again"
-		shown=$(sed -n 's/^base word at 128 is //p' "$work/out")
+		shown=$(sed -n 's/^base word at 128 width 4 is //p' "$work/out")
 		works 0 release "$all" --owner=1 "$o/again" "$work/nothing" "$shown" "$o/same"
 		prints "base $base" 'move 0' 'entries 0'
 	done

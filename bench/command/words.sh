@@ -14,9 +14,9 @@ help_is() {
 try_help() {
 	works 0 --help
 	cp "$work/out" "$work/help.all"
-	for word in read release 'sheet empty' 'sheet make' 'sheet show' 'owners all' 'owners show' setting audit verify handoff station help --words --bytes \
+	for word in read release 'sheet empty' 'sheet make' 'sheet show' 'owners all' 'owners show' setting audit verify handoff station help --modules --words --bytes \
 		--ranges --json --report --text --list --reports --owners --owner --version 'Exit status' ' 20  ROOM' ' 22  RESERVED' ' 23  OWNERS' ' 24  OWNER' \
-		'1 to 12, 22, 13, 14' '15, 23, 16, 17, 24' ' 33  KIND' ' 40  ORDER' ' 41  UNKNOWN'; do
+		' 25  MODULE' ' 26  WORD' ' 27  RELOCATION' '1 to 12, 22, 13, 14, 25, 26, 27' '15, 23,' ' 33  KIND' ' 40  ORDER' ' 41  UNKNOWN'; do
 		grep -qF -e "$word" "$work/out" || fail "the help does not speak of $word"
 		passed
 	done
@@ -36,7 +36,7 @@ try_help() {
 			help_is "$name" $words
 		done
 	done
-	grep -qF -e --words "$work/help.read" || fail "read's help has no --words"
+	for word in --modules --words; do grep -qF -e "$word" "$work/help.read" || fail "read's help has no $word"; done
 	for name in read release sheet; do
 		grep -qF -e 'extended number' "$work/help.$name" || fail "$name's help has no extended number"
 	done

@@ -7,6 +7,7 @@
 #include <stdlib.h>
 #include <string.h>
 
+#include "contents.h"
 #include "counts.h"
 #include "drawing.h"
 #include "lent.h"
@@ -16,10 +17,10 @@
 #define ANSWER_ROOM ((size_t)4096)
 
 /* Every so many calls, a multiple of CALLS, the edges of refusals 1 and 15 come. */
-#define ROUND 8000
+#define ROUND 9600
 
 static const size_t answer_bytes[CALLS] = { PAJURENDA_READ_BYTES, PAJURENDA_RELEASE_BYTES, PAJURENDA_SHEET_BYTES,
-					    PAJURENDA_SETTING_BYTES, PAJURENDA_AUDIT_BYTES };
+					    PAJURENDA_SETTING_BYTES, PAJURENDA_AUDIT_BYTES, PAJURENDA_CONTENTS_BYTES };
 
 static const char *const part_name[PARTS] = { "image", "other", "owners", "places", "answer" };
 static const size_t part_room[PARTS] = { IMAGE_ROOM, IMAGE_ROOM, OWNERS_ROOM, PLACES_ROOM, ANSWER_ROOM };
@@ -112,6 +113,8 @@ static void draw(enum call call, uint64_t turn)
 		draw_setting();
 	else if (call == AUDIT)
 		draw_shipped();
+	else if (call == CONTENTS)
+		draw_list();
 	draw_answer(call);
 	if (edge)
 		length[ANSWER] = answer_bytes[call];
@@ -132,6 +135,7 @@ static uint32_t call_library(enum call call)
 	case SHEET: return pajurenda_sheet(other, length[OTHER], answer, room);
 	case SETTING:
 		return pajurenda_setting(image, size, first_number, second_number, answer, room);
+	case CONTENTS: return pajurenda_contents(image, size, lent[PLACES].at, length[PLACES], answer, room);
 	default:
 		return pajurenda_audit(image, size, other, length[OTHER],
 				       lent[PLACES].at, length[PLACES], answer, room);
@@ -202,6 +206,8 @@ static uint32_t call_model(enum call call)
 	case RELEASE: return model_release();
 	case SHEET: return model_sheet();
 	case SETTING: return model_setting();
+	case CONTENTS:
+		return model_contents(model[IMAGE], length[IMAGE], model[PLACES], length[PLACES], model[ANSWER]);
 	default: return model_audit();
 	}
 }

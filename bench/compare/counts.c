@@ -11,7 +11,7 @@
 /* A run of so many calls must have every number. */
 #define LONG 10000
 
-const char *const call_name[CALLS] = { "read", "release", "sheet", "setting", "audit" };
+const char *const call_name[CALLS] = { "read", "release", "sheet", "setting", "audit", "contents" };
 
 /* What came: numbers by call; lengths, and those that got past the reading, by call and edge. */
 static uint64_t seen[CALLS][101];
@@ -21,6 +21,9 @@ static uint64_t long_images;
 /* Sheets by themselves: those of refusal 15's lengths, and accepted ones without entries, with fewer than 256, with 256. */
 static uint64_t of_length[SHEET_LENGTHS], right_length[SHEET_LENGTHS];
 static uint64_t right_sheets[3];
+
+/* Accepted images with modules and without, by call. */
+static uint64_t with_modules[CALLS][2];
 
 /* Accepted releases, by whether the sheet has entries and whether the base is another. */
 static uint64_t released[2][2];
@@ -36,7 +39,7 @@ static uint64_t refused_owners[2];
 /* Documents 01 and 02: the numbers that any call on an image can have, accepted or refused by the reading. */
 static bool of_reading(int number)
 {
-	return number <= PAJURENDA_OVERLAP || number == PAJURENDA_RESERVED;
+	return number <= PAJURENDA_OVERLAP || number == PAJURENDA_RESERVED || (number >= 25 && number <= 27);
 }
 
 /* An image of one of refusal 1's lengths, and how far the call got with it. */
@@ -54,6 +57,8 @@ static void count_edge(enum call call, uint32_t number)
 void count_call(enum call call, uint32_t number)
 {
 	seen[call][number]++;
+	if (number == 0)
+		with_modules[call][plan.cover.M != NOWHERE]++;
 	count_edge(call, number);
 }
 
@@ -139,6 +144,7 @@ static bool can_be(enum call call, int number)
 		       number == PAJURENDA_OWNERS || number == PAJURENDA_OWNER;
 	case SETTING: return number == PAJURENDA_FIELD;
 	case AUDIT: return number >= PAJURENDA_NEWBASE && number <= PAJURENDA_ROOM;
+	case CONTENTS: return number == PAJURENDA_ROOM;
 	default: return false;
 	}
 }
@@ -189,6 +195,19 @@ static bool show_sheets(void)
 	return each;
 }
 
+/* How often images with modules and without were accepted; false where a call never had one of them. */
+static bool show_modules(void)
+{
+	bool each = true;
+	for (int call = 0; call < CALLS; call++) {
+		if (call == SHEET)
+			continue;
+		printf("%s accepted with modules: %" PRIu64 ", without: %" PRIu64 "\n", call_name[call], with_modules[call][1], with_modules[call][0]);
+		each = each && with_modules[call][0] != 0 && with_modules[call][1] != 0;
+	}
+	return each;
+}
+
 /* How often the lengths came that document 01 draws the line at. */
 static void show_lengths(void)
 {
@@ -227,7 +246,7 @@ int conclude(uint64_t first, uint64_t count)
 	for (int call = 0; call < CALLS; call++)
 		show_seen((enum call)call);
 	show_lengths();
-	const bool every_way = show_released(), every_list = show_owners(), every_sheet = show_sheets();
+	const bool every_way = show_released(), every_list = show_owners(), every_sheet = show_sheets() && show_modules();
 	for (int call = 0; first == 0 && count >= CALLS * EDGES && call < CALLS; call++)
 		all = had_all((enum call)call, count >= LONG) && all;
 	if (first == 0 && count >= LONG && !(every_way && every_list && every_sheet))

@@ -6,7 +6,7 @@
 
 #include "../second/second.h"
 
-enum call { READ, RELEASE, SHEET, SETTING, AUDIT, CALLS };
+enum call { READ, RELEASE, SHEET, SETTING, AUDIT, CONTENTS, CALLS };
 
 extern const char *const call_name[CALLS];
 

@@ -22,6 +22,8 @@ static void change_shipped(void)
 		uint64_t at = kind < 3 ? plan.c + below(plan.z) : below(size);
 		if (kind == 5 && plan.n != 0)
 			at = plan.place[below(plan.n)] + below(4);
+		if (kind == 4 && plan.cover.M != NOWHERE)
+			at = plan.cover.M + below(plan.inside.size);
 		if (at < size)
 			shipped[at] ^= (uint8_t)(1 + below(255));
 	}

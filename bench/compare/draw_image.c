@@ -73,13 +73,15 @@ static void damage_edge(void)
 static uint64_t drawn_place(void)
 {
 	const uint64_t near = below(11);
-	switch (below(7)) {
+	switch (below(9)) {
 	case 0: return plan.E + near - 5;
 	case 1: return plan.c + near - 5;
 	case 2: return plan.c + plan.z + near - 5;
 	case 3: return plan.length + near - 7;
 	case 4: return plan.place[below(plan.n)] + near - 5;
 	case 5: return near;
+	case 6: return plan.cover.files == 0 ? near : plan.cover.file[below(plan.cover.files)].at + near - 5;
+	case 7: return plan.cover.M == NOWHERE ? plan.cover.free + near - 5 : plan.cover.M + below(plan.inside.size);
 	default: return below(TWO24);
 	}
 }
@@ -148,7 +150,10 @@ static void damage_image(void)
 {
 	static void (*const damage[])(void) = { damage_field, damage_edge, damage_edge,
 						damage_entry, damage_entry, damage_top,
-						damage_bytes, damage_length, damage_kind };
+						damage_bytes, damage_length, damage_kind,
+						damage_file, damage_free, damage_module,
+						damage_module, damage_row, damage_block,
+						damage_block, damage_block };
 	uint64_t count = below(2) == 0 ? 0 : 1 + below(2);
 	if (count == 0)
 		return;

@@ -28,6 +28,13 @@ void draw_image(void);
 void draw_edge(enum edge edge);
 uint64_t drawn_value(uint64_t old, unsigned width);
 
+/* draw_modules.c: damage to the files after the header file, and to the modules. */
+void damage_file(void);
+void damage_free(void);
+void damage_module(void);
+void damage_row(void);
+void damage_block(void);
+
 /* Lengths about both ends of refusal 15, one after the other: 0..20, then 65,530..65,540. */
 #define SHORT_SHEETS 21
 #define LONG_SHEETS 11
@@ -43,5 +50,8 @@ uint64_t draw_owners(void);
 
 /* draw_audit.c: the shipped file, and the places. */
 void draw_shipped(void);
+
+/* draw_contents.c: room for the list of contents. */
+void draw_list(void);
 
 #endif

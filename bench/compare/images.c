@@ -4,6 +4,7 @@
 #include <string.h>
 
 #include "fields.h"
+#include "../make/files.h"
 
 static uint64_t state = 1;
 
@@ -59,6 +60,8 @@ void plan_plain(struct plan *plan)
 	plan->identity = UINT64_C(0x31302D5441455254);
 	plan->revision = 0x01020304;
 	plan->z = 64;
+	plan->ends = ENDS_WITH_IMAGE;
+	plan->cover.filled = true;
 }
 
 /* How many entries a drawn plan has: few, and sometimes up to the most. */
@@ -109,8 +112,14 @@ void plan_drawn(struct plan *plan)
 	plan->revision = below(TWO32);
 	plan->n = drawn_count();
 	plan->before = below(plan->n + 1);
-	plan->gap = below(3) == 0 ? 0 : below(24);
+	plan->gap = below(3) == 0 ? 0 : below(64);
 	plan->z = drawn_size();
+	const uint64_t ends = below(8);
+	plan->ends = ends == 0 ? ENDS_WITH_HEADER_FILE : ends == 1 ? ENDS_ANYWHERE : ENDS_WITH_IMAGE;
+	plan->cover.section = below(3) == 0;
+	plan->cover.filled = below(2) == 0;
+	if (below(3) != 0)
+		draw_inside(&plan->inside);
 }
 
 /* Rounding up to a multiple. */
@@ -167,18 +176,40 @@ static void lay_entries(struct plan *plan)
 	}
 }
 
+/* #107: the files after the header file, which may become longer; region and words are clear of their headers and the free end. */
+static void lay_files(struct plan *plan)
+{
+	struct cover *cover = &plan->cover;
+	cover->from = plan->f + plan->s;
+	cover->V = plan->V;
+	cover->c = plan->c;
+	cover->z = plan->z;
+	cover->words = plan->n;
+	cover->place = plan->place;
+	cover->module = plan->inside.size;
+	lay_cover(cover);
+	plan->s = cover->end - plan->f;
+}
+
 /* The layout; the words are spread where the image is long. */
 void lay_out(struct plan *plan, uint64_t at_least)
 {
 	lay_tables(plan);
 	uint64_t end = lay_words(plan, 0);
-	if (at_least > end && plan->n != 0)
-		end = lay_words(plan, (at_least - end) / plan->n + 1);
+	const uint64_t more = plan->inside.size == 0 ? 0 : plan->inside.size + 64 + below(64);
+	if (at_least < end + more)
+		at_least = end + more;
+	if (at_least - more > end && plan->n != 0)
+		end = lay_words(plan, (at_least - more - end) / plan->n + 1);
 	plan->length = end > at_least ? end : at_least;
 	plan->end = end;
-	plan->V = below(2) == 0 ? plan->length : plan->f + plan->s;
+	const uint64_t least = plan->f + plan->s;
+	plan->V = plan->ends == ENDS_WITH_HEADER_FILE || plan->length < least ? least : plan->length;
+	if (plan->ends == ENDS_ANYWHERE && plan->length > least)
+		plan->V = least + below(plan->length - least);
 	if (plan->V > plan->length)
 		plan->length = plan->V;
+	lay_files(plan);
 	lay_entries(plan);
 }
 
@@ -205,22 +236,16 @@ uint64_t drawn_base(uint64_t length)
 	return 4096 * (kind == 0 ? 0 : kind == 1 ? highest : below(highest + 1));
 }
 
-/* The volume, the file and the section. */
+/* The volume, the files and the sections; more than one section in the header file would have to be walked. */
 static void put_volume(const struct plan *plan, uint8_t *image)
 {
-	static const uint8_t name[16] = { 0xBE, 0x40, 0x27, 0x91, 0x84, 0x22, 0x34, 0x47,
-					  0xB9, 0x71, 0x84, 0xB0, 0x27, 0x35, 0x3F, 0x0C };
-	put_number(image, 32, 8, plan->V);
-	memcpy(image + 40, "_FVH", 4);
-	put_number(image, 48, 2, plan->h);
-	put_number(image, 52, 2, plan->x);
-	if (plan->x != 0)
-		put_number(image, plan->x + 16, 4, plan->e);
-	memcpy(image + plan->f, name, 16);
-	image[plan->f + 19] &= 0xFE;
-	put_number(image, plan->f + 20, 3, plan->s);
-	put_number(image, plan->f + 24, 3, plan->S);
-	image[plan->f + 27] = 0x19;
+	const unsigned type = plan->s == FILE_HEADER + plan->S ? TYPE_FREEFORM : TYPE_RAW;
+	make_cover(&plan->cover, image);
+	if (plan->cover.M != NOWHERE)
+		put_inside(&plan->inside, image, plan->cover.M);
+	make_volume(image, plan->V, plan->h, plan->x, plan->e);
+	make_file(image, plan->f, plan->s, type, NAME_HEADER_FILE);
+	make_section(image, plan->f + FILE_HEADER, plan->S, HOLDS_RAW);
 }
 
 /* The FSP header. */
@@ -254,28 +279,16 @@ static void put_table(const struct plan *plan, uint8_t *image)
 		put_number(image, plan->p + 12 + 4 * k, 4, plan->entry[k]);
 }
 
-/* The sum of the volume's header; an odd h is rounded up or down, so that either misreading shows. */
-static void mend_volume(uint8_t *image, uint64_t length)
-{
-	uint64_t sum = 0, h = get_number(image, 48, 2);
-	h += h % 4 == 1 ? 1 : 0;
-	put_number(image, 50, 2, 0);
-	for (uint64_t i = 0; i + 2 <= h && i + 2 <= length; i += 2)
-		sum += get_number(image, i, 2);
-	put_number(image, 50, 2, 0 - sum);
-}
-
-/* The sum of the file's header, then that of the volume's, as far as the bytes are there. */
+/* The sums of the files' headers, then that of the volume's, as far as the bytes are there. */
 void mend(const struct plan *plan, uint8_t *image, uint64_t length)
 {
-	uint64_t sum = 0;
-	if (length < 72 || plan->f + 24 > length)
+	if (length < 72 || plan->f + FILE_HEADER > length)
 		return;
-	for (uint64_t i = 0; i < 24; i++)
-		if (i != 16 && i != 17 && i != 23)
-			sum += image[plan->f + i];
-	image[plan->f + 16] = (uint8_t)(0 - sum);
-	mend_volume(image, length);
+	sum_file(image, plan->f);
+	for (unsigned i = 0; i < plan->cover.files; i++)
+		if (plan->cover.file[i].at + FILE_HEADER <= length)
+			sum_file(image, plan->cover.file[i].at);
+	sum_volume(image, length);
 }
 
 /* The planned image; bytes no rule speaks of stay. */

@@ -4,18 +4,29 @@
 
 #include <stdint.h>
 
+#include "inside.h"
+#include "../make/cover.h"
+
 #define MOST_ENTRIES 1024
+
+/* The volume ends with the image, with the header file, or anywhere between. */
+enum ends { ENDS_WITH_IMAGE, ENDS_WITH_HEADER_FILE, ENDS_ANYWHERE };
+
 #define TWO24 UINT64_C(0x1000000)
 #define TWO32 UINT64_C(0x100000000)
 
-/* What an image is built from, in the letters of document 01; guard is the length of FSPE, or 0. */
+/* What an image is built from, in the letters of document 01; guard is the length of FSPE, or 0. #107: where the volume ends, the files after
+   the header file, the modules of one of them. */
 struct plan {
 	uint64_t length, V, h, x, e, L, guard, more_section, more_file;
 	uint64_t header_revision, component, low12, identity, revision, extended, base;
 	uint64_t n, before, gap, c, z;
+	enum ends ends;
 	uint64_t f, s, S, H, g, p, E, end;
 	uint64_t place[MOST_ENTRIES];
 	uint32_t entry[MOST_ENTRIES];
+	struct cover cover;
+	struct inside inside;
 };
 
 /* The sequence of numbers: its start, one number, one below a bound. */

@@ -55,7 +55,7 @@ static bool run_each(work *const *calls, const uint64_t *count, double *best, si
 /* The best time of one call for each of up to three works; gives the number of runs. */
 unsigned best_of(work *const *calls, double *best, size_t works)
 {
-	uint64_t count[3] = { 0 };
+	uint64_t count[4] = { 0 };
 	unsigned runs = 0, quiet = 0;
 	const double from = now();
 	for (size_t k = 0; k < works; k++) {

@@ -11,7 +11,7 @@
 /* One call. */
 typedef void work(void);
 
-/* The best time of one call for each of up to three works; gives the number of runs. */
+/* The best time of one call for each of up to four works; gives the number of runs. */
 unsigned best_of(work *const *calls, double *best, size_t works);
 
 /* A time in a unit that can be read, as a cell of a table. */

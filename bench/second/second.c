@@ -2,14 +2,16 @@
 
 #include <stdbool.h>
 #include <stddef.h>
+#include <stdlib.h>
+#include <string.h>
 
+#include "modules.h"
 #include "numbers.h"
 #include "owners.h"
 #include "sheet.h"
 
 #define TWO32 UINT64_C(4294967296)
 #define STRAY UINT64_C(16777216)
-#define MOST_WORDS 1025
 
 /* The letters of document 01, filled in rule by rule. */
 struct letters {
@@ -23,6 +25,7 @@ struct letters {
 	uint64_t p, n, E;
 	uint64_t c, z;
 	uint64_t index;
+	struct modules modules;
 };
 
 /* Refusal 3: the header file's GUID as stored. */
@@ -327,6 +330,45 @@ static bool refuse_overlap(struct letters *w)
 	return false;
 }
 
+/* "Moving": the base word and each patch word lead the words of a move. */
+static void list_words(const struct letters *w, struct modules *m)
+{
+	second_modules_word(m, w->H + 28, 4);
+	for (uint64_t i = 0; i < w->n; i++) {
+		uint64_t place = 0;
+		(void)points(w, entry_at(w, i), &place);
+		second_modules_word(m, place, 4);
+	}
+}
+
+/* Refusal 25, #107: the walk begins with what has been found so far. */
+static bool refuse_modules(struct letters *w)
+{
+	w->modules = (struct modules){
+		.image = w->image,
+		.length = w->length,
+		.V = w->V,
+		.f = w->f,
+		.E = w->E,
+		.c = w->c,
+		.z = w->z,
+	};
+	list_words(w, &w->modules);
+	return second_modules_refused(&w->modules);
+}
+
+/* Refusal 26, #107. */
+static bool refuse_words(struct letters *w)
+{
+	return second_modules_overlap(&w->modules);
+}
+
+/* Refusal 27, #107. */
+static bool refuse_relocations(struct letters *w)
+{
+	return second_modules_types(&w->modules);
+}
+
 /* #102: the identity of an image past refusal 5. */
 static struct identity identity_of(const struct letters *w)
 {
@@ -357,7 +399,7 @@ static struct second_reading accepted(const struct letters *w)
 	};
 }
 
-/* The table's order, with 22 after 12: a check is made only if all earlier ones passed; 0 where accepted. */
+/* The table's order, 22 after 12 and 25 to 27 last: a check is made only if all earlier ones passed; 0 where accepted. */
 static uint64_t judge(struct letters *w)
 {
 	static const struct {
@@ -368,6 +410,7 @@ static uint64_t judge(struct letters *w)
 		{ 5, refuse_header }, { 6, refuse_size }, { 7, refuse_component }, { 8, refuse_base },
 		{ 9, refuse_table }, { 10, refuse_config }, { 11, refuse_upd }, { 12, refuse_type },
 		{ 22, refuse_reserved }, { 13, refuse_place }, { 14, refuse_overlap },
+		{ 25, refuse_modules }, { 26, refuse_words }, { 27, refuse_relocations },
 	};
 
 	for (size_t i = 0; i < sizeof check / sizeof check[0]; i++)
@@ -380,35 +423,64 @@ static uint64_t judge(struct letters *w)
 struct second_reading second_read(const uint8_t *image, uint64_t length)
 {
 	struct letters w = { .image = image, .length = length };
-	const uint64_t number = judge(&w);
+	struct second_reading reading = { .number = judge(&w) };
 
-	if (number != 0)
-		return (struct second_reading){ .number = number, .index = w.index };
-	return accepted(&w);
+	if (reading.number != 0)
+		reading.index = w.index;
+	else
+		reading = accepted(&w);
+	second_modules_free(&w.modules);
+	return reading;
 }
 
-/* "Moving": new minus old modulo 2^32. */
-static uint64_t difference(uint64_t new_base, uint64_t old_base)
+/* #107: the modules of an image, as many as there is room for. */
+uint64_t second_modules(const uint8_t *image, uint64_t length,
+			struct second_module *modules, uint64_t room)
 {
-	return (TWO32 + new_base - old_base) % TWO32;
+	struct letters w = { .image = image, .length = length };
+	const uint64_t count = judge(&w) == 0 ? w.modules.count : 0;
+
+	for (uint64_t i = 0; i < count && i < room; i++)
+		modules[i] = w.modules.module[i].shown;
+	second_modules_free(&w.modules);
+	return count;
 }
 
-/* "Moving": the difference is added with wraparound to one word. */
-static void move_word(uint8_t *image, uint64_t at, uint64_t by)
+/* "Moving", #107: the words of a move, as many as there is room for. */
+uint64_t second_words(const uint8_t *image, uint64_t length,
+		      struct second_word *words, uint64_t room)
 {
-	const uint64_t word = (little(image, at, 4) + by) % TWO32;
-	for (uint64_t i = 0; i < 4; i++)
-		image[at + i] = (uint8_t)(word >> (8 * i));
+	struct letters w = { .image = image, .length = length };
+	const uint64_t count = judge(&w) == 0 ? w.modules.words : 0;
+
+	for (uint64_t i = 0; i < count && i < room; i++)
+		words[i] = w.modules.word[i];
+	second_modules_free(&w.modules);
+	return count;
 }
 
-/* "Moving": the base word and each patch word; the table itself has no byte of them. */
-static void move_words(const struct letters *w, uint8_t *image, uint64_t by)
+/* "Moving", #107: new minus old, modulo 2^32 for a word of 4 bytes, modulo 2^64 for one of 8. */
+static uint64_t difference(uint64_t new_base, uint64_t old_base, uint64_t width)
 {
-	move_word(image, w->H + 28, by);
-	for (uint64_t i = 0; i < w->n; i++) {
-		uint64_t place = 0;
-		(void)points(w, entry_at(w, i), &place);
-		move_word(image, place, by);
+	if (width == 4)
+		return (TWO32 + new_base - old_base) % TWO32;
+	return new_base - old_base;
+}
+
+/* "Moving": the difference is added with wraparound to one word; what goes beyond its width is left out. */
+static void move_word(uint8_t *image, const struct second_word *word, uint64_t by)
+{
+	const uint64_t value = little(image, word->place, word->width) + by;
+	for (uint64_t i = 0; i < word->width; i++)
+		image[word->place + i] = (uint8_t)(value >> (8 * i));
+}
+
+/* "Moving": every word of the list; no table or header that led to it has a byte of them. */
+static void move_words(const struct letters *w, uint8_t *image, uint64_t new_base)
+{
+	for (uint64_t i = 0; i < w->modules.words; i++) {
+		const struct second_word *word = &w->modules.word[i];
+		move_word(image, word, difference(new_base, w->base, word->width));
 	}
 }
 
@@ -466,14 +538,17 @@ struct second_released second_release(uint8_t *image, uint64_t length,
 	struct letters w = { .image = image, .length = length };
 	struct sheet s = { .bytes = sheet, .length = sheet_length };
 	const struct owners o = { .bytes = owners, .length = owners_length, .caller = owner };
-	const uint64_t number = judge_release(&w, &s, &o, new_base);
+	struct second_released released = { .number = judge_release(&w, &s, &o, new_base) };
 
-	if (number != 0)
-		return (struct second_released){ .number = number, .index = w.index };
-	for (uint64_t i = 0; i < s.m; i++)
-		set_field(&w, image, &s, i);
-	move_words(&w, image, difference(new_base, w.base));
-	return (struct second_released){ .move = (int64_t)new_base - (int64_t)w.base };
+	released.index = w.index;
+	if (released.number == 0) {
+		for (uint64_t i = 0; i < s.m; i++)
+			set_field(&w, image, &s, i);
+		move_words(&w, image, new_base);
+		released.move = (int64_t)new_base - (int64_t)w.base;
+	}
+	second_modules_free(&w.modules);
+	return released;
 }
 
 /* "One setting": the image's refusals, then 17; the end is a whole number that is never cut down. */
@@ -483,6 +558,7 @@ struct second_part second_setting(const uint8_t *image, uint64_t length,
 	struct letters w = { .image = image, .length = length };
 	uint64_t number = judge(&w);
 
+	second_modules_free(&w.modules);
 	if (number == 0 && (size == 0 || offset < 32 || offset > w.z || size > w.z - offset))
 		number = 17;
 	if (number != 0)
@@ -490,43 +566,15 @@ struct second_part second_setting(const uint8_t *image, uint64_t length,
 	return (struct second_part){ .position = w.c + offset, .length = size };
 }
 
-/* "The audit": the words a move changes, in order of position, and how far the walk has come. */
-struct words {
-	uint64_t place[MOST_WORDS];
-	uint64_t count;
-	uint64_t next;
-};
-
-/* "The audit": one word put in its place by position. */
-static void add_word(struct words *words, uint64_t place)
+/* "The audit": the vendor image moved, in bytes of its own. */
+static uint8_t *moved_copy(const struct letters *w, uint64_t base)
 {
-	uint64_t i = words->count++;
-	for (; i > 0 && words->place[i - 1] > place; i--)
-		words->place[i] = words->place[i - 1];
-	words->place[i] = place;
-}
-
-/* "The audit": the base word and each patch word. */
-static void add_words(struct words *words, const struct letters *w)
-{
-	add_word(words, w->H + 28);
-	for (uint64_t i = 0; i < w->n; i++) {
-		uint64_t place = 0;
-		(void)points(w, entry_at(w, i), &place);
-		add_word(words, place);
-	}
-}
-
-/* "The audit": a byte of the vendor image moved; asked for in order of position. */
-static uint64_t reference_at(const struct letters *w, struct words *words, uint64_t at, uint64_t by)
-{
-	while (words->next < words->count && words->place[words->next] + 4 <= at)
-		words->next++;
-	if (words->next == words->count || at < words->place[words->next])
-		return w->image[at];
-	const uint64_t place = words->place[words->next];
-	const uint64_t word = (number_at(w, place, 4) + by) % TWO32;
-	return word >> (8 * (at - place)) & 255;
+	uint8_t *copy = malloc(w->length);
+	if (copy == NULL)
+		abort();
+	memcpy(copy, w->image, w->length);
+	move_words(w, copy, base);
+	return copy;
 }
 
 /* "The audit": the number of bits that differ. */
@@ -539,15 +587,12 @@ static uint64_t ones(uint64_t byte)
 }
 
 /* "The audit": the counts of all differences; with a list, their entries too. */
-static struct second_audited compare(const struct letters *w, const uint8_t *shipped,
-				     uint64_t base, uint32_t *places)
+static struct second_audited compare(const struct letters *w, const uint8_t *reference,
+				     const uint8_t *shipped, uint32_t *places)
 {
-	struct words words = { .count = 0 };
-	struct second_audited a = { .base = base };
-	add_words(&words, w);
+	struct second_audited a = { .number = 0 };
 	for (uint64_t at = 0; at < w->length; at++) {
-		const uint64_t turned =
-			reference_at(w, &words, at, difference(base, w->base)) ^ shipped[at];
+		const uint64_t turned = reference[at] ^ shipped[at];
 		const bool setting = at >= w->c + 32 && at < w->c + w->z;
 		if (turned == 0)
 			continue;
@@ -561,25 +606,47 @@ static struct second_audited compare(const struct letters *w, const uint8_t *shi
 	return a;
 }
 
-/* "The audit": the vendor image's refusals, 19, 18, then 20, which keeps base and counts. */
+/* "The audit": against the vendor image moved to a legal base; 20 keeps base and counts. */
+static struct second_audited audit_at(const struct letters *w, const uint8_t *shipped, uint64_t base,
+				      uint32_t *places, uint64_t places_count)
+{
+	uint8_t *reference = moved_copy(w, base);
+	struct second_audited a = compare(w, reference, shipped, NULL);
+	if (a.settings + a.strays <= places_count) {
+		a = compare(w, reference, shipped, places);
+	} else {
+		a.number = 20;
+		a.explained = 0;
+	}
+	a.base = base;
+	free(reference);
+	return a;
+}
+
+/* "The audit": the vendor image's refusals, 19, 18, then 20. */
+static struct second_audited judge_audit(struct letters *w, const uint8_t *shipped, uint64_t shipped_length,
+					 uint32_t *places, uint64_t places_count)
+{
+	const uint64_t number = judge(w);
+
+	if (number != 0)
+		return (struct second_audited){ .number = number, .index = w->index };
+	if (shipped_length != w->length)
+		return (struct second_audited){ .number = 19 };
+	const uint64_t base = little(shipped, w->H + 28, 4);
+	if (!legal(base, w->length))
+		return (struct second_audited){ .number = 18 };
+	return audit_at(w, shipped, base, places, places_count);
+}
+
+/* "The audit". */
 struct second_audited second_audit(const uint8_t *vendor, uint64_t vendor_length,
 				   const uint8_t *shipped, uint64_t shipped_length,
 				   uint32_t *places, uint64_t places_count)
 {
 	struct letters w = { .image = vendor, .length = vendor_length };
-	const uint64_t number = judge(&w);
+	const struct second_audited a = judge_audit(&w, shipped, shipped_length, places, places_count);
 
-	if (number != 0)
-		return (struct second_audited){ .number = number, .index = w.index };
-	if (shipped_length != vendor_length)
-		return (struct second_audited){ .number = 19 };
-	const uint64_t base = little(shipped, w.H + 28, 4);
-	if (!legal(base, vendor_length))
-		return (struct second_audited){ .number = 18 };
-	struct second_audited a = compare(&w, shipped, base, NULL);
-	if (a.settings + a.strays <= places_count)
-		return compare(&w, shipped, base, places);
-	a.number = 20;
-	a.explained = 0;
+	second_modules_free(&w.modules);
 	return a;
 }

@@ -54,7 +54,35 @@ struct second_audited {
 	uint64_t explained;
 };
 
+/*
+ * #107: a module of an accepted image. All places are counted from the image's start: the file's
+ * header, the section's header, the module's first byte and its image base. The kind is the
+ * section's type, 0x10 or 0x12; words counts the relocation words without the image base.
+ */
+struct second_module {
+	uint64_t file, section, kind;
+	uint64_t place, size;
+	uint64_t base_place, base_width;
+	uint64_t words;
+};
+
+/* #107: a word that a move changes, 4 or 8 bytes wide. */
+struct second_word {
+	uint64_t place, width;
+};
+
 struct second_reading second_read(const uint8_t *image, uint64_t length);
+
+/* The modules in file order: up to `room` of them are written, all are counted; 0 where the image is refused. */
+uint64_t second_modules(const uint8_t *image, uint64_t length,
+			struct second_module *modules, uint64_t room);
+
+/*
+ * All words of a move, written and counted likewise: the base word, the patch words in table order,
+ * then for each module its image base and its relocation words in table order.
+ */
+uint64_t second_words(const uint8_t *image, uint64_t length,
+		      struct second_word *words, uint64_t room);
 
 /* An empty sheet of the image's identity only moves, the present base only sets; the owner (1 or 2) sets in its own ranges. */
 struct second_released second_release(uint8_t *image, uint64_t length,

@@ -15,6 +15,7 @@ use Rattle.moving.specs.declared.Moved.{Moved}
 use Rattle.sheet.specs.declared.SheetReading.{SheetReading}
 use Rattle.lookup.specs.Setting.{settingNumber}
 use Rattle.audit.specs.declared.Audited.{Audited}
+use Rattle.listing.specs.declared.Listed.{Listed}
 use Rattle.answers.specs.declared.Found.{Found}
 
 -- what a call gives where the buffer A has room for an answer of k fields, and what where it hasn't
@@ -65,6 +66,10 @@ settingFields r = r .number ∷ r .place ∷ r .length ∷ []
 abbrev pub auditFields : Audited → List ℕ
 auditFields r =
     r .number ∷ r .index ∷ r .base ∷ r .settings ∷ r .strays ∷ r .bits ∷ cond (r .explained) 1 0 ∷ []
+
+-- what an image holds: number, index, modules, words, entries
+abbrev pub listFields : Listed → List ℕ
+listFields r = r .number ∷ r .index ∷ r .modules ∷ r .words ∷ r .entries ∷ []
 
 -- the promise of `find`
 abbrev pub Finds : List ℕ → ℕ → ℕ → Found → Type 0

@@ -1,20 +1,17 @@
 // The answers of the C calls, written in a lent buffer: eight bytes a field, the number first.
 use audit::Audited;
-use handoff::Kind;
-use handoff::Stepped;
-use handoffs::Counted;
 use image::Reading;
+use listing::Listed;
 use moving::Moved;
 use sheet::SheetReading;
 ghost use mathlib.Core.Path.{_≡_};
 ghost use Prim.Native.Nat.{_*_, _≤_};
 ghost use lib.ListN.{length};
 ghost use Rattle.words.specs.Put.{putAll};
-ghost use Rattle.answers.specs.Steps.{kindFields, stepFields, countFields};
-ghost use Rattle.answers.specs.Answers.{twos, readFields, moveFields, sheetFields, Finds, settingFields, auditFields};
+ghost use Rattle.answers.specs.Answers.{twos, readFields, moveFields, sheetFields, Finds, settingFields, auditFields, listFields};
 
 // The fields, eight bytes each, from the buffer's start on.
-fn write_fields(answer: &mut [u8], fields: &[u64])
+pub fn write_fields(answer: &mut [u8], fields: &[u64])
     requires { ⌜ 8 * length (now fields) ≤ length (now answer) ⌝ }
     ensures { λ _. ⌜ now (answer .exit) ≡ putAll 8 (now (answer .entry)) 0 (now (fields .entry)) ⌝ }
 {
@@ -99,7 +96,7 @@ pub fn find(image: &[u8], offset: u64, size: u64) -> Found
             length: 0,
         };
     }
-    let r = image::read(image);
+    let r = reading::read(image);
     Found {
         number,
         place: r.c as u64 + offset,
@@ -131,6 +128,20 @@ pub fn write_audited(answer: &mut [u8], r: Audited)
     write_fields(answer, &fields);
 }
 
+pub fn write_listed(answer: &mut [u8], r: Listed)
+    requires { ⌜ 40 ≤ length (now answer) ⌝ }
+    ensures { λ _. ⌜ now (answer .exit) ≡ putAll 8 (now (answer .entry)) 0 (listFields r) ⌝ }
+{
+    let fields = [
+        r.number as u64,
+        r.index as u64,
+        r.modules as u64,
+        r.words as u64,
+        r.entries as u64,
+    ];
+    write_fields(answer, &fields);
+}
+
 // A kind of hand-off block as numbers: which, and its own data.
 pub struct KindFields {
     pub kind: u64,
@@ -138,89 +149,4 @@ pub struct KindFields {
     pub b: u64,
     pub c: u64,
     pub d: u64,
-}
-
-fn kind_fields(kind: Kind) -> KindFields
-    ensures { λ r. ⌜ r ≡ kindFields kind ⌝ }
-{
-    match kind {
-        Kind::Nothing => KindFields {
-            kind: 0,
-            a: 0,
-            b: 0,
-            c: 0,
-            d: 0,
-        },
-        Kind::Handoff => KindFields {
-            kind: 1,
-            a: 0,
-            b: 0,
-            c: 0,
-            d: 0,
-        },
-        Kind::Resource {
-            code,
-            attributes,
-            start,
-            length,
-        } => KindFields {
-            kind: 2,
-            a: code as u64,
-            b: attributes as u64,
-            c: start,
-            d: length,
-        },
-        Kind::Guid { place, length } => KindFields {
-            kind: 3,
-            a: place as u64,
-            b: length as u64,
-            c: 0,
-            d: 0,
-        },
-        Kind::Unknown => KindFields {
-            kind: 4,
-            a: 0,
-            b: 0,
-            c: 0,
-            d: 0,
-        },
-        Kind::End => KindFields {
-            kind: 5,
-            a: 0,
-            b: 0,
-            c: 0,
-            d: 0,
-        },
-    }
-}
-
-pub fn write_step(answer: &mut [u8], s: Stepped)
-    requires { ⌜ 80 ≤ length (now answer) ⌝ }
-    ensures { λ _. ⌜ now (answer .exit) ≡ putAll 8 (now (answer .entry)) 0 (stepFields s) ⌝ }
-{
-    let next = s.next;
-    let block = s.block;
-    let kind = block.kind;
-    let k = kind_fields(kind);
-    let fields = [
-        s.number as u64,
-        next.at as u64,
-        block.place as u64,
-        block.code as u64,
-        block.length as u64,
-        k.kind,
-        k.a,
-        k.b,
-        k.c,
-        k.d,
-    ];
-    write_fields(answer, &fields);
-}
-
-pub fn write_counted(answer: &mut [u8], r: Counted)
-    requires { ⌜ 24 ≤ length (now answer) ⌝ }
-    ensures { λ _. ⌜ now (answer .exit) ≡ putAll 8 (now (answer .entry)) 0 (countFields r) ⌝ }
-{
-    let fields = [r.number as u64, r.at as u64, r.count as u64];
-    write_fields(answer, &fields);
 }

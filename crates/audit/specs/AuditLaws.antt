@@ -19,22 +19,26 @@ use Rattle.image.specs.After.{unlessRefused, after-accepted, after-refused, cha
 use Rattle.image.specs.Guarantee.{guaranteed}
 use Rattle.image.specs.Numbers.{Numbered, after-every, numbered-own, own-number, own-zero}
 use Rattle.moving.specs.Moves.{difference}
-use Rattle.moving.specs.MovesLaws.{moved-cong}
-use Rattle.moving.specs.Moving.{wordsOf, moveTo}
+use Rattle.relocate.specs.Widths.{moved-by-width}
+use Rattle.image.specs.Words.{wordsOf}
+use Rattle.image.specs.WordsLaws.{widths}
+use Rattle.moving.specs.Moving.{moveTo}
 use Rattle.audit.specs.declared.Audited.{Audited}
 use Rattle.walk.specs.declared.Counts.{Counts}
 use Rattle.walk.specs.Differences.{differences, settings, strays, bits, entries, countsOf}
 use Rattle.audit.specs.Audit.{shippedBase, reference, differing, refusedAudit, carried, tally, auditing, listed, listedBytes, listing}
-use Rattle.walk.specs.Walk.{by}
+use Rattle.stride.specs.Stride.{by}
 use Rattle.walk.specs.DifferenceLaws.{counts}
 
 -- the reference, as the walk moves each word
-pub by-reference : (xs ys : List ℕ) (d : ℕ) → d ≡ difference (reading xs .base) (shippedBase xs ys) 4
-    → by xs (reading xs) d ≡ reference xs ys
+pub by-reference : (xs ys : List ℕ) (four eight : ℕ) → reading xs .number ≡ 0
+    → four ≡ difference (reading xs .base) (shippedBase xs ys) 4 → eight ≡ difference (reading xs .base) (shippedBase xs ys) 8
+    → by xs (reading xs) four eight ≡ reference xs ys
 unfolding reference moveTo
-by-reference xs ys d e =
-    moved-cong xs (wordsOf xs (reading xs)) (wordsOf xs (reading xs)) (λ w. d) (difference (reading xs .base) (shippedBase xs ys))
-    (suc (reading xs .n)) (λ j h. refl) (λ j h. refl) (λ j h. e)
+by-reference xs ys four eight ok e f =
+    rw (e, f)
+    (moved-by-width xs (wordsOf xs (reading xs)) (difference (reading xs .base) (shippedBase xs ys))
+    (widths xs (reading xs) (guaranteed xs ok)))
 
 module _ (xs ys : List ℕ) (room : ℕ) (t : Counts) (long : length ys ≡ length xs)
     (totals : t ≡ countsOf (reference xs ys) ys (reading xs)) where
@@ -133,10 +137,12 @@ module _ (xs ys : List ℕ) (room : ℕ) where
         (omega (arith, g .legal, g .length-least), rw names (omega (arith, audit-accepted ok .legal, g .length-least)))
 
     -- what is walked is what differs
-    pub walked : (d : ℕ) → d ≡ difference (reading xs .base) (auditing xs ys room .base) 4
-        → differences (by xs (reading xs) d) ys 0 (length ys) ≡ differing xs ys
+    pub walked : (four eight : ℕ) → four ≡ difference (reading xs .base) (auditing xs ys room .base) 4
+        → eight ≡ difference (reading xs .base) (auditing xs ys room .base) 8
+        → differences (by xs (reading xs) four eight) ys 0 (length ys) ≡ differing xs ys
     unfolding differing
-    walked d e = rw (by-reference xs ys d (rw names at e), audit-accepted ok .paired)
+    walked four eight e f =
+        rw (by-reference xs ys four eight (audit-accepted ok .read) (rw names at e) (rw names at f), audit-accepted ok .paired)
 
   -- an accepted audit that has nothing to list has found no difference
   none : auditing xs ys room .number ≡ 0 → (Holds (listing (auditing xs ys room)) → ⊥) → differing xs ys ≡ []

@@ -1,4 +1,3 @@
 pub mod Audit
-pub mod Filling
 pub mod AuditLaws
 pub mod Small

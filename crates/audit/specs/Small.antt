@@ -9,16 +9,14 @@ use lib.ListN.{length, set}
 use lib.Seq.{sets}
 use Rattle.facts.specs.Fact.{_≤?_, _≡?_, _and_, test}
 use Rattle.words.specs.Le.{le}
-use Rattle.words.specs.Put.{digit, put, add}
+use Rattle.words.specs.Put.{digit}
 use Rattle.words.specs.Number.{number, zeros}
-use Rattle.table.specs.Entry.{placeOf}
-use Rattle.table.specs.Passes.{place}
 use Rattle.image.specs.declared.Reading.{Reading}
 use Rattle.image.specs.Reading.{reading}
 use Rattle.image.specs.After.{changed-so}
 use Rattle.image.specs.Small.{small, settingBytes, small-reads}
-use Rattle.moving.specs.Moves.{difference, movedTo}
-use Rattle.moving.specs.Moving.{moveTo}
+use Rattle.moving.specs.Moving.{moveTo, movedImage}
+use Rattle.moving.specs.Small.{small-moved}
 use Rattle.walk.specs.Differences.{differences, settings, strays, bits, flips, entry, entries}
 use Rattle.audit.specs.declared.Audited.{Audited}
 use Rattle.audit.specs.Audit.{shippedBase, reference, differing, tally, auditing, listed}
@@ -47,7 +45,7 @@ r =
       component = 1;
       identity = record { image = 0x31302D5441455254; revision = 0x01020304; extended = 0 };
       base = 0xFFF80000;
-      c = 188;
+      c = 216;
       z = 48;
       n = 1;
       E = 188;
@@ -55,8 +53,8 @@ r =
 
 -- ---- one audit of ys: its base is 0x00100000, and ks are the positions that differ
 
-module _ (ys : List ℕ) (long : length ys ≡ 240) (base : le 4 ys 128 ≡ 0x00100000) where
-  size : length maker ≡ 240
+module _ (ys : List ℕ) (long : length ys ≡ 360) (base : le 4 ys 128 ≡ 0x00100000) where
+  size : length maker ≡ 360
   unfolding small number zeros
   size = refl
 
@@ -64,13 +62,13 @@ module _ (ys : List ℕ) (long : length ys ≡ 240) (base : le 4 ys 128 ≡ 0x00
   word = ap (λ (q : Reading). le 4 ys (q .H + 28)) small-reads ∙ base
 
   pub small-reference : reference maker ys ≡ moved
-  unfolding small number zeros digit le test placeOf place reference moveTo movedTo difference add put
-  small-reference = ap (λ (b : ℕ). moveTo maker (reading maker) b) word ∙ ap (λ (q : Reading). moveTo maker q 0x00100000) small-reads
+  unfolding reference movedImage
+  small-reference = ap (λ (b : ℕ). moveTo maker (reading maker) b) word ∙ small-moved
 
-  module _ (ks : List ℕ) (are : differences moved ys 0 240 ≡ ks) (room : ℕ) where
+  module _ (ks : List ℕ) (are : differences moved ys 0 360 ≡ ks) (room : ℕ) where
     found : differing maker ys ≡ ks
     unfolding differing
-    found = ap (λ (m : ℕ). differences (reference maker ys) ys 0 m) size ∙ ap (λ (l : List ℕ). differences l ys 0 240) small-reference ∙ are
+    found = ap (λ (m : ℕ). differences (reference maker ys) ys 0 m) size ∙ ap (λ (l : List ℕ). differences l ys 0 360) small-reference ∙ are
 
     -- the answer, of these parts
     abbrev answer : Reading → List ℕ → ℕ → List ℕ → Audited
@@ -97,7 +95,7 @@ module _ (ys : List ℕ) (long : length ys ≡ 240) (base : le 4 ys 128 ≡ 0x00
 
 -- ---- two settings and a stray
 
-long : length shipped ≡ 240
+long : length shipped ≡ 360
 unfolding small number zeros
 long = refl
 
@@ -105,7 +103,7 @@ base : le 4 shipped 128 ≡ 0x00100000
 unfolding small number zeros digit le
 base = refl
 
-differ-there : differences moved shipped 0 240 ≡ 5 ∷ 228 ∷ 229 ∷ []
+differ-there : differences moved shipped 0 360 ≡ 5 ∷ 256 ∷ 257 ∷ []
 unfolding small number zeros digit test differences
 differ-there = refl
 
@@ -113,28 +111,28 @@ differ-there = refl
 pub small-audit : auditing maker shipped 3
     ≡ record { number = 0; index = 0; base = 0x00100000; settings = 2; strays = 1; bits = 2; explained = false }
 unfolding small number zeros digit test settings strays bits flips
-small-audit = small-told shipped long base (5 ∷ 228 ∷ 229 ∷ []) differ-there 3
+small-audit = small-told shipped long base (5 ∷ 256 ∷ 257 ∷ []) differ-there 3
 
 pub small-short : auditing maker shipped 2
     ≡ record { number = 20; index = 0; base = 0x00100000; settings = 2; strays = 1; bits = 2; explained = false }
 unfolding small number zeros digit test settings strays bits flips
-small-short = small-told shipped long base (5 ∷ 228 ∷ 229 ∷ []) differ-there 2
+small-short = small-told shipped long base (5 ∷ 256 ∷ 257 ∷ []) differ-there 2
 
 abbrev places : List ℕ
 places = 9 ∷ 9 ∷ 9 ∷ []
 
 -- the stray first, then the settings
-pub small-list : listed maker shipped places ≡ 16777221 ∷ 228 ∷ 229 ∷ []
+pub small-list : listed maker shipped places ≡ 16777221 ∷ 256 ∷ 257 ∷ []
 unfolding test entry entries listed
 small-list =
     changed-so (auditing maker shipped 3 .number) (sets places 0 (entries (reading maker) (differing maker shipped))) places
     (ap (λ (a : Audited). a .number) small-audit)
     ∙ ap (λ (q : Reading). sets places 0 (entries q (differing maker shipped))) small-reads
-    ∙ ap (λ (l : List ℕ). sets places 0 (entries r l)) (found shipped long base (5 ∷ 228 ∷ 229 ∷ []) differ-there 3)
+    ∙ ap (λ (l : List ℕ). sets places 0 (entries r l)) (found shipped long base (5 ∷ 256 ∷ 257 ∷ []) differ-there 3)
 
 -- ---- without the stray
 
-settled-long : length settled ≡ 240
+settled-long : length settled ≡ 360
 unfolding small number zeros
 settled-long = refl
 
@@ -142,11 +140,11 @@ settled-base : le 4 settled 128 ≡ 0x00100000
 unfolding small number zeros digit le
 settled-base = refl
 
-differ-settled : differences moved settled 0 240 ≡ 228 ∷ 229 ∷ []
+differ-settled : differences moved settled 0 360 ≡ 256 ∷ 257 ∷ []
 unfolding small number zeros digit test differences
 differ-settled = refl
 
 pub small-explained : auditing maker settled 2
     ≡ record { number = 0; index = 0; base = 0x00100000; settings = 2; strays = 0; bits = 2; explained = true }
 unfolding small number zeros digit test settings strays bits flips
-small-explained = small-told settled settled-long settled-base (228 ∷ 229 ∷ []) differ-settled 2
+small-explained = small-told settled settled-long settled-base (256 ∷ 257 ∷ []) differ-settled 2

@@ -1,21 +1,13 @@
 // Document 01, "The audit".
 use image::Reading;
-use walk::Ahead;
 use walk::Counts;
 ghost use mathlib.Core.Path.{_≡_};
 ghost use Prim.Native.Nat.{_*_, _/_, _≤_, _<_};
 ghost use lib.ListN.{length};
-ghost use lib.Seq.{sets};
 ghost use Rattle.facts.specs.Fact.{Holds, Tells};
-ghost use Rattle.words.specs.Put.{putAll};
 ghost use Rattle.header.specs.Base.{legalBase};
 ghost use Rattle.image.specs.Reading.{reading};
-ghost use Rattle.image.specs.Guarantee.{Guaranteed};
-ghost use Rattle.walk.specs.Differences.{differences, entries};
-ghost use Rattle.walk.specs.Walk.{by};
-ghost use Rattle.walk.specs.Ahead.{Known};
 ghost use Rattle.audit.specs.Audit.{shippedBase, refusedAudit, carried, tally, auditing, listing, Audits, AuditsBytes};
-ghost use Rattle.audit.specs.Filling.{Room, Filled, inWords, inBytes};
 
 // The answer of an audit: number 0 or 20 and the base and counts, or another refusal's number and index and zeros.
 pub struct Audited {
@@ -26,100 +18,6 @@ pub struct Audited {
     pub strays: usize,
     pub bits: usize,
     pub explained: bool,
-}
-
-// How many places are filled, and where the walk stands.
-pub struct Fill {
-    pub at: usize,
-    pub ahead: Ahead,
-    pub count: usize,
-}
-
-// One step of the walk, with what it lists.
-fn fill_step(vendor: &[u8], shipped: &[u8], places: &mut [u32], r: Reading, d: u32, f: Fill) -> Fill
-    requires { ⌜ Guaranteed (now vendor) r × (length (now shipped) ≡ length (now vendor)) × (f .at < length (now vendor)) × Known (now vendor) r (f .at) (f .ahead) × Room (by (now vendor) r d) (now shipped) (length (now places)) f ⌝ }
-    ensures { λ u. ⌜ Filled inWords (by (now (vendor .entry)) r d) (now (shipped .entry)) r (now (places .entry)) (now (places .exit)) f u ⌝ }
-    ensures { λ u. ⌜ Known (now (vendor .entry)) r (u .at) (u .ahead) ⌝ }
-{
-    let known = f.ahead;
-    let ahead = walk::current_words(vendor, r, f.at, known);
-    let s = walk::advance(vendor, shipped, r, d, f.at, ahead.first);
-    if s.hit {
-        let i = f.count;
-        places[i] = walk::entry_of(r, s.at);
-        return Fill {
-            at: s.at + 1,
-            ahead,
-            count: i + 1,
-        };
-    }
-    Fill {
-        at: s.at,
-        ahead,
-        count: f.count,
-    }
-}
-
-// The whole walk: lists every difference.
-fn fill_all(vendor: &[u8], shipped: &[u8], places: &mut [u32], r: Reading, d: u32)
-    requires { ⌜ Guaranteed (now vendor) r × (length (now shipped) ≡ length (now vendor)) × (length (differences (by (now vendor) r d) (now shipped) 0 (length (now shipped))) ≤ length (now places)) ⌝ }
-    ensures { λ _. ⌜ now (places .exit) ≡ sets (now (places .entry)) 0 (entries r (differences (by (now (vendor .entry)) r d) (now (shipped .entry)) 0 (length (now (shipped .entry))))) ⌝ }
-{
-    let mut f = Fill {
-        at: 0,
-        ahead: walk::next_words(vendor, r, 0),
-        count: 0,
-    };
-    while f.at < vendor.len() {
-        f = fill_step(vendor, shipped, places, r, d, f);
-    }
-}
-
-// The same step for a list in which a place is four bytes.
-fn fill_step_bytes(
-    vendor: &[u8],
-    shipped: &[u8],
-    places: &mut [u8],
-    r: Reading,
-    d: u32,
-    f: Fill,
-) -> Fill
-    requires { ⌜ Guaranteed (now vendor) r × (length (now shipped) ≡ length (now vendor)) × (f .at < length (now vendor)) × Known (now vendor) r (f .at) (f .ahead) × Room (by (now vendor) r d) (now shipped) (length (now places) / 4) f ⌝ }
-    ensures { λ u. ⌜ Filled inBytes (by (now (vendor .entry)) r d) (now (shipped .entry)) r (now (places .entry)) (now (places .exit)) f u ⌝ }
-    ensures { λ u. ⌜ Known (now (vendor .entry)) r (u .at) (u .ahead) ⌝ }
-{
-    let known = f.ahead;
-    let ahead = walk::current_words(vendor, r, f.at, known);
-    let s = walk::advance(vendor, shipped, r, d, f.at, ahead.first);
-    if s.hit {
-        let j = f.count;
-        words::put32(places, 4 * j, walk::entry_of(r, s.at));
-        return Fill {
-            at: s.at + 1,
-            ahead,
-            count: j + 1,
-        };
-    }
-    Fill {
-        at: s.at,
-        ahead,
-        count: f.count,
-    }
-}
-
-// The same walk for such a list.
-fn fill_all_bytes(vendor: &[u8], shipped: &[u8], places: &mut [u8], r: Reading, d: u32)
-    requires { ⌜ Guaranteed (now vendor) r × (length (now shipped) ≡ length (now vendor)) × (length (differences (by (now vendor) r d) (now shipped) 0 (length (now shipped))) ≤ length (now places) / 4) ⌝ }
-    ensures { λ _. ⌜ now (places .exit) ≡ putAll 4 (now (places .entry)) 0 (entries r (differences (by (now (vendor .entry)) r d) (now (shipped .entry)) 0 (length (now (shipped .entry))))) ⌝ }
-{
-    let mut g = Fill {
-        at: 0,
-        ahead: walk::next_words(vendor, r, 0),
-        count: 0,
-    };
-    while g.at < vendor.len() {
-        g = fill_step_bytes(vendor, shipped, places, r, d, g);
-    }
 }
 
 fn refused(number: u32, index: usize) -> Audited
@@ -152,11 +50,13 @@ fn carry(number: u32, base: u64, t: Counts, explained: bool) -> Audited
 
 // The pair is one, and its base legal: the counts, and whether `room` places are enough.
 fn tell(vendor: &[u8], shipped: &[u8], r: Reading, base: u64, room: usize) -> Audited
-    requires { ⌜ (r ≡ reading (now vendor)) × (reading (now vendor) .number ≡ 0) × (length (now shipped) ≡ length (now vendor)) × (base ≡ shippedBase (now vendor) (now shipped)) × Holds (legalBase (length (now vendor)) base) ⌝ }
+    requires { ⌜ (r ≡ reading (now vendor)) × (reading (now vendor) .number ≡ 0) × (length (now shipped) ≡ length (now vendor))
+        × (base ≡ shippedBase (now vendor) (now shipped)) × Holds (legalBase (length (now vendor)) base) ⌝ }
     ensures { λ a. ⌜ a ≡ tally (now (vendor .entry)) (now (shipped .entry)) room ⌝ }
 {
-    let d = moving::modular_difference(r.base, base);
-    let t = walk::count_all(vendor, shipped, r, d);
+    let four = moving::modular_difference(r.base, base);
+    let eight = relocate::wide_difference(r.base, base);
+    let t = walk::count_all(vendor, shipped, r, four, eight);
     if room < t.settings + t.strays {
         return carry(20, base, t, false);
     }
@@ -201,13 +101,14 @@ fn lists(a: Audited) -> bool
 pub fn audit(vendor: &[u8], shipped: &[u8], places: &mut [u32]) -> Audited
     ensures { λ a. ⌜ Audits (now (vendor .entry)) (now (shipped .entry)) (now (places .entry)) a (now (places .exit)) ⌝ }
 {
-    let r = image::read(vendor);
+    let r = reading::read(vendor);
     let a = survey(vendor, shipped, r, places.len());
     if !lists(a) {
         return a;
     }
-    let d = moving::modular_difference(r.base, a.base);
-    fill_all(vendor, shipped, places, r, d);
+    let four = moving::modular_difference(r.base, a.base);
+    let eight = relocate::wide_difference(r.base, a.base);
+    fill::fill_all(vendor, shipped, places, r, four, eight);
     a
 }
 
@@ -215,12 +116,13 @@ pub fn audit(vendor: &[u8], shipped: &[u8], places: &mut [u32]) -> Audited
 pub fn audit_bytes(vendor: &[u8], shipped: &[u8], places: &mut [u8]) -> Audited
     ensures { λ a. ⌜ AuditsBytes (now (vendor .entry)) (now (shipped .entry)) (now (places .entry)) a (now (places .exit)) ⌝ }
 {
-    let r = image::read(vendor);
+    let r = reading::read(vendor);
     let a = survey(vendor, shipped, r, places.len() / 4);
     if !lists(a) {
         return a;
     }
-    let d = moving::modular_difference(r.base, a.base);
-    fill_all_bytes(vendor, shipped, places, r, d);
+    let four = moving::modular_difference(r.base, a.base);
+    let eight = relocate::wide_difference(r.base, a.base);
+    fill_bytes::fill_all(vendor, shipped, places, r, four, eight);
     a
 }

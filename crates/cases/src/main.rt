@@ -143,7 +143,7 @@ fn call_audit(vendor: &[u8], shipped: &[u8], count: usize) {
 fn answer(image: &mut [u8], other: &[u8], owners: &[u8], k: Record) {
     let call = k.call;
     if call == 1 {
-        show_reading(image::read(image));
+        show_reading(reading::read(image));
     } else if call == 4 {
         call_setting(image, k.a as u64, k.b as u64);
     } else if call == 5 {

@@ -18,7 +18,7 @@ use Rattle.image.specs.Guarantee.{guaranteed}
 use Rattle.image.specs.Numbers.{Numbered, None, numbered}
 use Rattle.moving.specs.declared.Moved.{Moved}
 use Rattle.moving.specs.Moves.{difference, Beside}
-use Rattle.moving.specs.Moving.{wordsAt, wordsOf, acceptedMove, movedImage}
+use Rattle.moving.specs.Moving.{movedWords, acceptedMove, movedImage}
 use Rattle.sheet.specs.declared.SheetReading.{SheetReading}
 use Rattle.sheet.specs.Sheet.{count, offset, size, bodyAt, sheetFits}
 use Rattle.sheet.specs.ReadSheet.{sheetReading, ReadsSheet}
@@ -29,6 +29,9 @@ use Rattle.steps.specs.SetStep.{Within}
 use Rattle.release.specs.Release.{releasing, releasedImage, Releases}
 use Rattle.release.specs.ReleaseLaws.{Releasable, release-kept, release-shows, release-accepted}
 use Rattle.released.specs.Theorems.{OwnRelease, release-numbered, released-fits, set-then-moved, moved-then-set, released-reads, released-entry, released-word, released-other, entry-beside, empty-moves, present-sets, there-and-back}
+use Rattle.listing.specs.declared.Listed.{Listed}
+use Rattle.listing.specs.Listing.{Lists}
+use Rattle.listing.specs.Theorems.{OwnList, listing-numbered, contents-kept}
 use Rattle.audit.specs.declared.Audited.{Audited}
 use Rattle.audit.specs.Audit.{shippedBase, reference, differing, auditing, Audits, AuditsBytes}
 use Rattle.audit.specs.AuditLaws.{OwnAudit, audit-numbered, list-kept, bytes-kept, Accepted, audit-accepted, names, fits}
@@ -53,6 +56,8 @@ Demand1 =
     ((a .number ≡ 0 → ⊥) → l ≡ places))
     × ((xs ys bytes : List ℕ) (a : Audited) (l : List ℕ) → AuditsBytes xs ys bytes a l → Numbered xs OwnAudit (a .number) (a .index) ×
     ((a .number ≡ 0 → ⊥) → l ≡ bytes))
+    × ((xs bytes : List ℕ) (a : Listed) (l : List ℕ) → Lists xs bytes a l → Numbered xs OwnList (a .number) (a .index) ×
+    ((a .number ≡ 0 → ⊥) → l ≡ bytes))
 
 -- ---- demand 2, over the two steps of a release that is accepted: what it answers; that each byte of the sheet's entries is its body's,
 -- that the difference is added to each word of the move, that no byte is both, and that every other byte is what it was; that the image
@@ -61,10 +66,12 @@ Demand1 =
 pub record Released-right (xs s : List ℕ) (base : ℕ) (o : List ℕ) (owner : ℕ) (r : Moved) (ys : List ℕ) : Type 0 where
   pub answer : r ≡ acceptedMove (reading xs) base
   pub entries : (i j : ℕ) → i < count s → j < size s i → getD ys (reading xs .c + offset s i + j) 0 ≡ getD s (bodyAt s i + j) 0
-  pub words : (j : ℕ) → j < suc (reading xs .n)
-      → le 4 ys (wordsAt xs (reading xs) j) ≡ (le 4 xs (wordsAt xs (reading xs) j) + difference (reading xs .base) base 4) % 2 ^ 32
-  pub apart : (k : ℕ) → Within (reading xs) s k → Beside (wordsOf xs (reading xs)) (suc (reading xs .n)) k
-  pub others : (k : ℕ) → Beside (fieldsOf (reading xs) s) (count s) k → Beside (wordsOf xs (reading xs)) (suc (reading xs .n)) k
+  pub words : (j : ℕ) → j < movedWords xs .count
+      → le (movedWords xs .width j) ys (movedWords xs .at j)
+      ≡ (le (movedWords xs .width j) xs (movedWords xs .at j) + difference (reading xs .base) base (movedWords xs .width j))
+      % 256 ^ movedWords xs .width j
+  pub apart : (k : ℕ) → Within (reading xs) s k → Beside (movedWords xs) (movedWords xs .count) k
+  pub others : (k : ℕ) → Beside (fieldsOf (reading xs) s) (count s) k → Beside (movedWords xs) (movedWords xs .count) k
       → getD ys k 0 ≡ getD xs k 0
   pub reads : reading ys ≡ rebased (reading xs) base
   pub set-first : ys ≡ movedImage (setImage xs s) base
@@ -142,6 +149,7 @@ demand-1 = (
   (λ xs offset size k is. rw is (lookup-numbered xs offset size)),
   (λ xs ys places a l is. rw (is .0, is .1) (audit-numbered xs ys (length places), list-kept xs ys places)),
   (λ xs ys bytes a l is. rw (is .0, is .1) (audit-numbered xs ys (length bytes / 4), bytes-kept xs ys bytes)),
+  (λ xs bytes a l is. rw (is .0, is .1) (listing-numbered xs (length bytes), contents-kept xs bytes)),
 )
 
 pub demand-2 : Demand2

@@ -19,13 +19,15 @@ use Rattle.words.specs.PutLaws.{le-one}
 use Rattle.table.specs.PassesLaws.{place-cong}
 use Rattle.table.specs.declared.Place.{Place}
 use Rattle.image.specs.declared.Reading.{Reading}
+use Rattle.image.specs.Words.{met}
 use Rattle.image.specs.Reading.{entriesAt, rebased, reading}
 use Rattle.image.specs.Guarantee.{guaranteed}
 use Rattle.moving.specs.declared.Moved.{Moved}
 use Rattle.moving.specs.Moves.{difference, Beside}
 use Rattle.moving.specs.MovesLaws.{find}
-use Rattle.moving.specs.Moving.{wordsAt, wordsOf}
-use Rattle.moving.specs.MovingLaws.{beside}
+use Rattle.moving.specs.Moving.{movedWords}
+use Rattle.moving.specs.MovingLaws.{same-words}
+use Rattle.image.specs.WordsLaws.{words-outside, beside}
 use Rattle.sheet.specs.Sheet.{count, offset, size, bodyAt}
 use Rattle.sheet.specs.Set.{fieldsOf, setImage}
 use Rattle.owners.specs.Owners.{ranges, rangeAt, rangeEnd, holdsByte, listFits, owned}
@@ -107,7 +109,7 @@ abbrev pub Seen : Type 0
 Seen =
     (xs s : List ℕ) (base : ℕ) (o : List ℕ) (owner : ℕ) → Bytes xs → Bytes s → releasing xs s base o owner .number ≡ 0
     → (reading (releasedImage xs s base o owner) ≡ rebased (reading xs) base)
-    × ((k : ℕ) → NotOf o owner (reading xs .c) k → Beside (wordsOf xs (reading xs)) (suc (reading xs .n)) k
+    × ((k : ℕ) → NotOf o owner (reading xs .c) k → Beside (movedWords xs) (movedWords xs .count) k
     → getD (releasedImage xs s base o owner) k 0 ≡ getD xs k 0)
 
 -- ---- it holds
@@ -199,30 +201,22 @@ module _ (o : List ℕ) (w region : ℕ) (ys zs s : List ℕ) (base owner : ℕ)
   out-of-part k (inl low) j e mine = omega (arith, t .at, owned-inside o (reading ys .z) w j good mine)
   out-of-part k (inr high) j e mine = omega (arith, t .at, owned-inside o (reading ys .z) w j good mine)
 
-  -- the words stand at the same places
-  words-same : (j : ℕ) → j < suc (reading ys .n) → wordsAt zs (reading ys) j ≡ wordsAt ys (reading ys) j
-  words-same zero h = refl
-  words-same (suc j) h =
-      let r = reading ys in
-      let g = guaranteed ys (t .read) in
-      ap (λ (p : Place). p .at)
-      (place-cong zs ys (entriesAt r) (r .n) (sym (t .long))
-      (record { same = λ k l. sym (t .same (entriesAt r + k) (out-of-part (entriesAt r + k) (inl (omega (arith, g))))) })
-      j (omega arith))
+  -- the words are the same
+  words-same : met zs (reading zs) ≡ met ys (reading ys)
+  words-same =
+      same-words ys zs (t .read) (record { long = t .long; same = λ k words out. t .same k (out-of-part k out) }) (sym (t .reads))
 
   -- and hold the same numbers
-  word-same : (j : ℕ) → j < suc (reading ys .n) → Alike ys zs (wordsAt ys (reading ys) j) 4
-  word-same zero h =
-      record {
-        same = λ k l. t .same (reading ys .H + 28 + k)
-            (out-of-part (reading ys .H + 28 + k) (inl (omega (arith, guaranteed ys (t .read)))));
-      }
-  word-same (suc j) h = go (guaranteed ys (t .read) .word-outside j (omega arith) .1)
+  word-same : (j : ℕ) → j < movedWords ys .count → Alike ys zs (movedWords ys .at j) (movedWords ys .width j)
+  word-same j h = go (words-outside ys (reading ys) (guaranteed ys (t .read)) j h)
     where
       p : ℕ
-      p = wordsAt ys (reading ys) (suc j)
+      p = movedWords ys .at j
 
-      go : (p + 4 ≤ reading ys .c) ⊎ (reading ys .c + reading ys .z ≤ p) → Alike ys zs p 4
+      m : ℕ
+      m = movedWords ys .width j
+
+      go : (p + m ≤ reading ys .c) ⊎ (reading ys .c + reading ys .z ≤ p) → Alike ys zs p m
       go (inl a) = record { same = λ k l. t .same (p + k) (out-of-part (p + k) (inl (omega arith))) }
       go (inr a) = record { same = λ k l. t .same (p + k) (out-of-part (p + k) (inr (omega arith))) }
 
@@ -239,14 +233,16 @@ module _ (o : List ℕ) (w region : ℕ) (ys zs s : List ℕ) (base owner : ℕ)
   bz′ = bytes-released zs s base o owner ok′ (t .right-bytes) bs
 
   -- each word afterwards
-  number : (j : ℕ) → j < suc (reading ys .n) → le 4 ys′ (wordsAt ys (reading ys) j) ≡ le 4 zs′ (wordsAt ys (reading ys) j)
+  number : (j : ℕ) → j < movedWords ys .count
+      → le (movedWords ys .width j) ys′ (movedWords ys .at j) ≡ le (movedWords ys .width j) zs′ (movedWords ys .at j)
   number j h =
-      let p = wordsAt ys (reading ys) j in
-      let d = difference (reading ys .base) base 4 in
-      let there : le 4 zs′ p ≡ (le 4 zs p + d) % 2 ^ 32 =
-      rw (← t .reads, words-same j h) at (released-word zs s base o owner ok′ (t .right-bytes) bs j (rw (← t .reads) h)) in
+      let p = movedWords ys .at j in
+      let m = movedWords ys .width j in
+      let d = difference (reading ys .base) base m in
+      let there : le m zs′ p ≡ (le m zs p + d) % 256 ^ m =
+      rw (words-same, ← t .reads) at (released-word zs s base o owner ok′ (t .right-bytes) bs j (rw words-same h)) in
       released-word ys s base o owner ok (t .left-bytes) bs j h
-      ∙ ap (λ (v : ℕ). (v + d) % 2 ^ 32) (le-cong 4 ys zs p (word-same j h))
+      ∙ ap (λ (v : ℕ). (v + d) % 256 ^ m) (le-cong m ys zs p (word-same j h))
       ∙ sym there
 
   -- each byte afterwards
@@ -254,18 +250,17 @@ module _ (o : List ℕ) (w region : ℕ) (ys zs s : List ℕ) (base owner : ℕ)
   byte k not = fields (find (fieldsOf (reading ys) s) (count s) k)
     where
       word : Beside (fieldsOf (reading ys) s) (count s) k
-          → ((j : ℕ) × (j < suc (reading ys .n)) × (wordsAt ys (reading ys) j ≤ k) × (k < wordsAt ys (reading ys) j + 4)) ⊎ Beside
-          (wordsOf ys (reading ys)) (suc (reading ys .n)) k
+          → ((j : ℕ) × (j < movedWords ys .count) × (movedWords ys .at j ≤ k) × (k < movedWords ys .at j + movedWords ys .width j)) ⊎ Beside
+          (movedWords ys) (movedWords ys .count) k
           → getD ys′ k 0 ≡ getD zs′ k 0
       word out (inl (j, h, low, high)) =
-          let p = wordsAt ys (reading ys) j in
+          let p = movedWords ys .at j in
           let e : p + (k - p) ≡ k = omega arith in
-          rw e at (le-one 4 ys′ zs′ p by′ bz′ (number j h) .same (k - p) (omega arith))
+          rw e at (le-one (movedWords ys .width j) ys′ zs′ p by′ bz′ (number j h) .same (k - p) (omega arith))
       word out (inr words) =
-          let words′ : Beside (wordsOf zs (reading ys)) (suc (reading ys .n)) k = λ j h. rw (words-same j h) (words j h) in
           released-other ys s base o owner ok (t .left-bytes) bs k out words
           ∙ t .same k not
-          ∙ sym (released-other zs s base o owner ok′ (t .right-bytes) bs k (rw (← t .reads) out) (rw (← t .reads) words′))
+          ∙ sym (released-other zs s base o owner ok′ (t .right-bytes) bs k (rw (← t .reads) out) (rw words-same words))
 
       fields : Within (reading ys) s k ⊎ Beside (fieldsOf (reading ys) s) (count s) k → getD ys′ k 0 ≡ getD zs′ k 0
       fields (inl (i, h, low, high)) =
@@ -274,7 +269,7 @@ module _ (o : List ℕ) (w region : ℕ) (ys zs s : List ℕ) (base owner : ℕ)
           let here = released-entry ys s base o owner ok (t .left-bytes) bs i j h (omega arith) in
           let there = rw (← t .reads) at (released-entry zs s base o owner ok′ (t .right-bytes) bs i j h (omega arith)) in
           rw e at (here ∙ sym there)
-      fields (inr out) = word out (find (wordsOf ys (reading ys)) (suc (reading ys .n)) k)
+      fields (inr out) = word out (find (movedWords ys) (movedWords ys .count) k)
 
   both-released : Together o w region ys′ zs′
   both-released =
@@ -354,10 +349,10 @@ nobody's xs s base o owner bx bs read j low high not-1 not-2 =
     not-own : (w : ℕ) → (Holds (owned o w j) → ⊥) → NotOf o w (reading xs .c) (reading xs .c + j)
     not-own w none i e mine = let same : j ≡ i = omega arith in none (rw same mine)
 
-    words : Beside (wordsOf xs (reading xs)) (suc (reading xs .n)) (reading xs .c + j)
+    words : Beside (movedWords xs) (movedWords xs .count) (reading xs .c + j)
     words =
         let g = guaranteed xs read in
-        beside xs (reading xs) g (suc (reading xs .n)) (reading xs .c + j) (omega arith) (inr (omega (arith, g)))
+        beside xs (reading xs) g (movedWords xs .count) (reading xs .c + j) (omega arith) (inr (omega (arith, g)))
         (inr (omega arith, omega arith))
 
     accepted : releasing xs s base o owner .number ≡ 0 → (owner ≡ 1) ⊎ (owner ≡ 2)

@@ -62,13 +62,13 @@ x₂ = releasedImage x₁ second 0x00100000 two 2
 pub x₃ : List ℕ
 x₃ = releasedImage x₂ second 0x00100000 two 1
 
-long : length maker ≡ 240
+long : length maker ≡ 360
 unfolding small number zeros
 long = refl
 
 -- an answer goes by the reading and the length alone
-by-reading : (xs s : List ℕ) (base w : ℕ) (r : Reading) → reading xs ≡ r → length xs ≡ 240
-    → releasing xs s base two w ≡ afterReading refusedMove r (releaseRules r 240 s base two w)
+by-reading : (xs s : List ℕ) (base w : ℕ) (r : Reading) → reading xs ≡ r → length xs ≡ 360
+    → releasing xs s base two w ≡ afterReading refusedMove r (releaseRules r 360 s base two w)
 unfolding releasing
 by-reading xs s base w r e l = rw (e, l)
 
@@ -84,7 +84,7 @@ reads₁ : reading x₁ ≡ rebased read-of 0xFFF80000
 unfolding x₁
 reads₁ = released-reads maker sample 0xFFF80000 two 1 first maker-bytes sample-bytes
 
-long₁ : length x₁ ≡ 240
+long₁ : length x₁ ≡ 360
 unfolding x₁
 long₁ = length-released maker sample 0xFFF80000 two 1 first maker-bytes sample-bytes ∙ long
 
@@ -104,7 +104,7 @@ reads₂ =
     released-reads x₁ second 0x00100000 two 2 (ap (λ (m : Moved). m .number) moved) bytes₁ second-bytes
     ∙ ap (λ (r : Reading). rebased r 0x00100000) reads₁
 
-long₂ : length x₂ ≡ 240
+long₂ : length x₂ ≡ 360
 unfolding x₂
 long₂ = length-released x₁ second 0x00100000 two 2 (ap (λ (m : Moved). m .number) moved) bytes₁ second-bytes ∙ long₁
 

@@ -12,15 +12,16 @@ use Rattle.words.specs.Le.{le, Bytes, Alike}
 use Rattle.words.specs.LeLaws.{le-cong}
 use Rattle.words.specs.PutLaws.{le-one}
 use Rattle.header.specs.Base.{legalBase}
-use Rattle.table.specs.PassesLaws.{place-cong}
-use Rattle.table.specs.declared.Place.{Place}
 use Rattle.image.specs.declared.Reading.{Reading}
-use Rattle.image.specs.Reading.{entriesAt, rebased, reading}
+use Rattle.image.specs.Words.{met}
+use Rattle.image.specs.Reading.{rebased, reading}
 use Rattle.image.specs.Guarantee.{guaranteed}
-use Rattle.image.specs.FrameBelow.{frame-below}
+use Rattle.image.specs.WordsLaws.{words-outside}
+use Rattle.image.specs.FrameBut.{AlikeBut, frame-but}
 use Rattle.moving.specs.Moves.{difference, Beside}
 use Rattle.moving.specs.MovesLaws.{find}
-use Rattle.moving.specs.Moving.{wordsAt, wordsOf, movedImage}
+use Rattle.moving.specs.Moving.{movedWords, movedImage}
+use Rattle.moving.specs.MovingLaws.{same-words}
 use Rattle.sheet.specs.Set.{setImage, Fits}
 use Rattle.steps.specs.MoveStep.{unmoved-byte, moved-number, length-after, bytes-after, moved-reads, moved-on, moved-nowhere}
 use Rattle.steps.specs.SetStep.{kept-outside, length-after-set, bytes-after-set}
@@ -42,72 +43,64 @@ module _ (ys zs : List ℕ) (fine : reading ys .number ≡ 0) (long : length zs 
       le-cong 4 zs ys (reading ys .H + 28) (record { same = λ j h. same (reading ys .H + 28 + j) (inl (omega (arith, g))) }) ∙ sym
       (g .base-is)
 
+  but-alike : AlikeBut ys zs (reading ys)
+  but-alike = record { long = sym long; same = λ k words out. sym (same k out) }
+
   -- they read alike
   reads-alike : reading zs ≡ reading ys
   reads-alike =
-      let g = guaranteed ys fine in
-      frame-below ys zs fine
-      (record {
-        long = sym long;
-        below = λ k h. sym (same k (inl (omega (arith, g))));
-        above = λ k h l. sym (same k (inl (omega (arith, g))));
-        marks = record { same = λ j h. sym (same (reading ys .c + 6 + j) (inl (omega arith))) };
-      })
-      (rw (base-alike, long) (g .legal))
+      frame-but ys zs fine but-alike (rw (base-alike, long) (guaranteed ys fine .legal))
       ∙ ap (λ (w : ℕ). rebased (reading ys) w) base-alike
 
   -- no byte of a word of a move lies in the settings part
-  word-alike : (j : ℕ) → j < suc (reading ys .n) → Alike zs ys (wordsAt ys (reading ys) j) 4
-  word-alike zero h = record { same = λ k l. same (reading ys .H + 28 + k) (inl (omega (arith, guaranteed ys fine))) }
-  word-alike (suc j) h = go (guaranteed ys fine .word-outside j (omega arith) .1)
+  word-alike : (j : ℕ) → j < movedWords ys .count → Alike zs ys (movedWords ys .at j) (movedWords ys .width j)
+  word-alike j h = go (words-outside ys (reading ys) (guaranteed ys fine) j h)
     where
       w : ℕ
-      w = wordsAt ys (reading ys) (suc j)
+      w = movedWords ys .at j
 
-      go : (w + 4 ≤ reading ys .c) ⊎ (reading ys .c + reading ys .z ≤ w) → Alike zs ys w 4
+      m : ℕ
+      m = movedWords ys .width j
+
+      go : (w + m ≤ reading ys .c) ⊎ (reading ys .c + reading ys .z ≤ w) → Alike zs ys w m
       go (inl a) = record { same = λ k l. same (w + k) (inl (omega arith)) }
       go (inr a) = record { same = λ k l. same (w + k) (inr (omega arith)) }
-
-  -- the words stand at the same places, since the table is the same
-  words-alike : (j : ℕ) → j < suc (reading ys .n) → wordsAt zs (reading ys) j ≡ wordsAt ys (reading ys) j
-  words-alike zero h = refl
-  words-alike (suc j) h =
-      let t = entriesAt (reading ys) in
-      let g = guaranteed ys fine in
-      ap (λ (w : Place). w .at)
-      (place-cong zs ys t (reading ys .n) long (record { same = λ k l. same (t + k) (inl (omega (arith, g))) }) j (omega arith))
 
   -- so they agree there after a move to one base
   moves-alike : Bytes ys → Bytes zs → (next : ℕ) → Holds (legalBase (length ys) next) → (k : ℕ) → Outside (reading ys) k
       → getD (movedImage zs next) k 0 ≡ getD (movedImage ys next) k 0
-  moves-alike by bz next legal k out = go (find (wordsOf ys (reading ys)) (suc (reading ys .n)) k)
+  moves-alike by bz next legal k out = go (find (movedWords ys) (movedWords ys .count) k)
     where
+      words : met zs (reading zs) ≡ met ys (reading ys)
+      words = same-words ys zs fine but-alike reads-alike
+
       fine′ : reading zs .number ≡ 0
       fine′ = ap (λ (s : Reading). s .number) reads-alike ∙ fine
 
       legal′ : Holds (legalBase (length zs) next)
       legal′ = rw long legal
 
-      number : (j : ℕ) → j < suc (reading ys .n)
-          → le 4 (movedImage zs next) (wordsAt ys (reading ys) j) ≡ le 4 (movedImage ys next) (wordsAt ys (reading ys) j)
+      number : (j : ℕ) → j < movedWords ys .count
+          → le (movedWords ys .width j) (movedImage zs next) (movedWords ys .at j)
+          ≡ le (movedWords ys .width j) (movedImage ys next) (movedWords ys .at j)
       number j h =
-          let w = wordsAt ys (reading ys) j in
-          let d = difference (reading ys .base) next 4 in
-          let there : le 4 (movedImage zs next) w ≡ (le 4 zs w + d) % 2 ^ 32 =
-          rw (reads-alike, words-alike j h) at (moved-number zs bz fine′ next legal′ j (rw reads-alike h)) in
-          there ∙ ap (λ (v : ℕ). (v + d) % 2 ^ 32) (le-cong 4 zs ys w (word-alike j h)) ∙ sym (moved-number ys by fine next legal j h)
+          let w = movedWords ys .at j in
+          let m = movedWords ys .width j in
+          let d = difference (reading ys .base) next m in
+          let there : le m (movedImage zs next) w ≡ (le m zs w + d) % 256 ^ m =
+          rw (words, reads-alike) at (moved-number zs bz fine′ next legal′ j (rw words h)) in
+          there ∙ ap (λ (v : ℕ). (v + d) % 256 ^ m) (le-cong m zs ys w (word-alike j h)) ∙ sym (moved-number ys by fine next legal j h)
 
-      go : ((j : ℕ) × (j < suc (reading ys .n)) × (wordsAt ys (reading ys) j ≤ k) × (k < wordsAt ys (reading ys) j + 4)) ⊎ Beside
-          (wordsOf ys (reading ys)) (suc (reading ys .n)) k
+      go : ((j : ℕ) × (j < movedWords ys .count) × (movedWords ys .at j ≤ k) × (k < movedWords ys .at j + movedWords ys .width j)) ⊎ Beside
+          (movedWords ys) (movedWords ys .count) k
           → getD (movedImage zs next) k 0 ≡ getD (movedImage ys next) k 0
       go (inl (j, h, low, high)) =
-          let w = wordsAt ys (reading ys) j in
+          let w = movedWords ys .at j in
           let e : w + (k - w) ≡ k = omega arith in
-          rw e at (le-one 4 (movedImage zs next) (movedImage ys next) w (bytes-after zs bz fine′ next legal′)
+          rw e at (le-one (movedWords ys .width j) (movedImage zs next) (movedImage ys next) w (bytes-after zs bz fine′ next legal′)
           (bytes-after ys by fine next legal) (number j h) .same (k - w) (omega arith))
       go (inr beside) =
-          let beside′ : Beside (wordsOf zs (reading ys)) (suc (reading ys .n)) k = λ j h. rw (words-alike j h) (beside j h) in
-          unmoved-byte zs bz fine′ next legal′ k (rw reads-alike beside′) ∙ same k out ∙ sym (unmoved-byte ys by fine next legal k beside)
+          unmoved-byte zs bz fine′ next legal′ k (rw words beside) ∙ same k out ∙ sym (unmoved-byte ys by fine next legal k beside)
 
 -- ---- what explains an image
 

@@ -56,13 +56,18 @@ pub maker-goes : releasing maker sample 0x00100000 two 1 .number ≡ 0
 maker-goes = ap (λ (m : Moved). m .number) small-release
 
 -- the release sets, and it moves
-pub maker-sets : getD (releasedImage maker sample 0x00100000 two 1) 228 0 ≡ getD maker 228 0 → ⊥
+pub maker-sets : getD (releasedImage maker sample 0x00100000 two 1) 256 0 ≡ getD maker 256 0 → ⊥
 unfolding small number zeros digit
-maker-sets same = let e : _≡_ {A = ℕ} 1 0 = sym (ap (λ (l : List ℕ). getD l 228 0) small-released) ∙ same in omega arith
+maker-sets same = let e : _≡_ {A = ℕ} 1 0 = sym (ap (λ (l : List ℕ). getD l 256 0) small-released) ∙ same in omega arith
 
 pub maker-moves : getD (releasedImage maker sample 0x00100000 two 1) 130 0 ≡ getD maker 130 0 → ⊥
 unfolding small number zeros digit
 maker-moves same = let e : _≡_ {A = ℕ} 0x10 0xF8 = sym (ap (λ (l : List ℕ). getD l 130 0) small-released) ∙ same in omega arith
+
+-- and it moves the module's image base too
+pub maker-relocates : getD (releasedImage maker sample 0x00100000 two 1) 318 0 ≡ getD maker 318 0 → ⊥
+unfolding small number zeros digit
+maker-relocates same = let e : _≡_ {A = ℕ} 0x10 0xF8 = sym (ap (λ (l : List ℕ). getD l 318 0) small-released) ∙ same in omega arith
 
 -- a chain of one
 pub maker-chain : Made maker (small 0x00100000 0x00100040 (settingBytes 1 0)) 0x00100000

@@ -1,7 +1,7 @@
 -- The frame law: two images of one length that agree on every byte which the reading looks at, other than the base word, and whose base
 -- words are both legal or both not, have the same reading but for the base.
 -- Assumes nothing.
-use Prim.Native.Nat.{ℕ, _+_, _*_, _≤_, _<_}
+use Prim.Native.Nat.{ℕ, _+_, _-_, _*_, _≤_, _<_}
 use mathlib.Core.List.{List}
 use mathlib.Core.Path.{_≡_, refl, sym, ap, _∙_}
 use mathlib.Core.Logic.{_⊎_, inl, inr}
@@ -21,9 +21,11 @@ use Rattle.table.specs.TableLaws.{extended-looks, extendedFits-looks, patch-loo
 use Rattle.table.specs.PassesLaws.{unrefused-cong, clear-cong}
 use Rattle.region.specs.Region.{regionFits, marksFit}
 use Rattle.region.specs.RegionLaws.{region-looks, marks-looks}
+use Rattle.whole.specs.Whole.{walked}
+use Rattle.sound.specs.RulesLaws.{patches-cong}
 use Rattle.image.specs.declared.Reading.{Reading}
 use Rattle.image.specs.Reading.{refusal, identityAt, accepted, rebased, reading}
-use Rattle.image.specs.Stages.{fromEntries, fromRegion, fromPatch, fromTable, fromComponent, fromHeader, fromSection, fromFile, fromExtension, fromVolume, stages, by-stages}
+use Rattle.image.specs.Stages.{fromModules, fromEntries, fromRegion, fromPatch, fromTable, fromComponent, fromHeader, fromSection, fromFile, fromExtension, fromVolume, stages, by-stages}
 
 -- s is r but for the base
 abbrev pub Rebased : Reading → Reading → Type 0
@@ -37,10 +39,14 @@ Together s t = Same Rebased s t
 -- are passed
 
 module _ (a b : List ℕ) where
-  -- the entries; the header's revision, revision and identity; the extended number, where the header has one
+  -- the entries; the header's revision, revision and identity; the extended number, where the header has one; and what the walk over the
+  -- modules meets
   abbrev pub AlikeEntries : ℕ → ℕ → ℕ → Type 0
   AlikeEntries H t n =
-      Alike a b t (4 * n) × Alike a b (H + 11) 13 × (Holds (hasExtended (le 1 a (H + 11))) → Alike a b (H + 76) 2)
+      Alike a b t (4 * n)
+      × Alike a b (H + 11) 13
+      × (Holds (hasExtended (le 1 a (H + 11))) → Alike a b (H + 76) 2)
+      × (walked a (le 8 a 32) (H - 28) ≡ walked b (le 8 b 32) (H - 28))
 
   -- c and z; the two marks
   abbrev pub AlikeRegion : ℕ → ℕ → ℕ → Type 0
@@ -110,8 +116,9 @@ module _ (a b : List ℕ) where
 module _ (a b : List ℕ) (long : length a ≡ length b) where
   entries : (H t n c z : ℕ) → component a H ≡ component b H → AlikeEntries a b H t n
       → Together (fromEntries a H t n c z) (fromEntries b H t n c z)
-  unfolding fromEntries accepted identityAt
-  entries H t n c z comp (table, names, far) =
+  unfolding fromEntries fromModules accepted identityAt
+  entries H t n c z comp (table, names, far, modules) =
+      let patches = patches-cong a b t n long table in
       let image : le 8 a (H + 16) ≡ le 8 b (H + 16) = le-in names 8 (H + 16) (omega arith) (omega arith) in
       let revision : le 4 a (H + 12) ≡ le 4 b (H + 12) = le-in names 4 (H + 12) (omega arith) (omega arith) in
       let extended : extendedNumber a H ≡ extendedNumber b H =
@@ -127,7 +134,16 @@ module _ (a b : List ℕ) (long : length a ≡ length b) where
             refl,
             refl,
             unrefused-cong a b t n long table 13,
-            (refl, refl, clear-cong a b t n long table (t + 4 * n) c z, rw (comp, image, revision, extended)),
+            (
+              refl,
+              refl,
+              clear-cong a b t n long table (t + 4 * n) c z,
+              (
+                refl,
+                rw modules,
+                λ h. (refl, rw (modules, patches), λ k. (refl, rw modules, λ l. rw (comp, image, revision, extended))),
+              ),
+            ),
           ),
         ),
       )

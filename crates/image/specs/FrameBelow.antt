@@ -1,7 +1,7 @@
--- The frame law for an accepted image, in one sentence: bytes at or above E other than c+6 and c+7 don't matter, nor does the base word so
--- long as it stays legal. Below header revision 6 the two bytes of the extended number don't either.
+-- The frame law for an accepted image, so far as the tables go: where the walk over the modules meets the same, bytes at or above E other
+-- than c+6 and c+7 don't matter, nor does the base word so long as it stays legal.
 -- Assumes nothing.
-use Prim.Native.Nat.{ℕ, _+_, _*_, _≤_, _<_}
+use Prim.Native.Nat.{ℕ, _+_, _-_, _*_, _≤_, _<_}
 use mathlib.Core.List.{List}
 use mathlib.Core.Path.{_≡_, refl, sym, ap, _∙_}
 use mathlib.Core.Logic.{_⊎_, inl, inr}
@@ -12,9 +12,10 @@ use Rattle.facts.specs.Rules.{Passed}
 use Rattle.words.specs.Le.{le, Alike}
 use Rattle.words.specs.LeLaws.{le-cong}
 use Rattle.header.specs.Base.{legalBase}
+use Rattle.whole.specs.Whole.{walked}
 use Rattle.image.specs.declared.Reading.{Reading}
-use Rattle.image.specs.Reading.{accepted, rebased, reading}
-use Rattle.image.specs.Stages.{fromEntries, fromRegion, fromPatch, fromTable, fromComponent, fromHeader, fromSection, fromFile, fromExtension, fromVolume, stages}
+use Rattle.image.specs.Reading.{accepted, rebased, fileAt, reading}
+use Rattle.image.specs.Stages.{fromModules, fromEntries, fromRegion, fromPatch, fromTable, fromComponent, fromHeader, fromSection, fromFile, fromExtension, fromVolume, stages}
 use Rattle.image.specs.Guarantee.{Guaranteed, guaranteed, all-passed}
 use Rattle.image.specs.Frame.{AlikeEntries, AlikeRegion, AlikePatch, AlikeTable, AlikeComponent, AlikeHeader, AlikeSection, AlikeFile, AlikeExtension, AlikeVolume, AlikeImage, frame}
 
@@ -27,14 +28,15 @@ pub record AlikeBelow (a b : List ℕ) (r : Reading) : Type 0 where
 
 -- a and b agree below H+76 but for the base word, from H+least on up to E, on the extended number where there is one, and on the two marks;
 -- the header ends at H+least or after
-record Framed (a b : List ℕ) (r : Reading) (least : ℕ) : Type 0 where
-  long : length a ≡ length b
-  below : (k : ℕ) → k < r .H + 28 → getD a k 0 ≡ getD b k 0
-  within : (k : ℕ) → r .H + 32 ≤ k → k < r .H + 76 → getD a k 0 ≡ getD b k 0
-  above : (k : ℕ) → r .H + least ≤ k → k < r .E → getD a k 0 ≡ getD b k 0
-  extended : 6 ≤ le 1 a (r .H + 11) → Alike a b (r .H + 76) 2
-  marks : Alike a b (r .c + 6) 2
-  header-long : 72 ≤ le 4 a (r .H + 4) → least ≤ le 4 a (r .H + 4)
+pub record Framed (a b : List ℕ) (r : Reading) (least : ℕ) : Type 0 where
+  pub long : length a ≡ length b
+  pub below : (k : ℕ) → k < r .H + 28 → getD a k 0 ≡ getD b k 0
+  pub within : (k : ℕ) → r .H + 32 ≤ k → k < r .H + 76 → getD a k 0 ≡ getD b k 0
+  pub above : (k : ℕ) → r .H + least ≤ k → k < r .E → getD a k 0 ≡ getD b k 0
+  pub extended : 6 ≤ le 1 a (r .H + 11) → Alike a b (r .H + 76) 2
+  pub marks : Alike a b (r .c + 6) 2
+  pub header-long : 72 ≤ le 4 a (r .H + 4) → least ≤ le 4 a (r .H + 4)
+  pub modules : walked a (le 8 a 32) (fileAt r) ≡ walked b (le 8 b 32) (fileAt r)
 
 module _ (a b : List ℕ) (r : Reading) (least : ℕ) (same : Framed a b r least)
     (both : test (legalBase (length a) (le 4 a (r .H + 28))) ≡ test (legalBase (length b) (le 4 b (r .H + 28)))) where
@@ -48,8 +50,8 @@ module _ (a b : List ℕ) (r : Reading) (least : ℕ) (same : Framed a b r least
   high p m h k = record { same = λ j l. same .above (p + j) (omega arith) (omega arith) }
 
   patch : (H p end : ℕ) → H + least ≤ p → Passed (fromPatch a H p end) r → (r .H ≡ H) × (p + 12 ≤ r .E) × AlikePatch a b H p end
-  unfolding fromPatch fromRegion fromEntries accepted
-  patch H p end far (fits, (region, (marks, (types, (reserved, (places, (clears, e))))))) =
+  unfolding fromPatch fromRegion fromEntries fromModules accepted
+  patch H p end far (fits, (region, (marks, (types, (reserved, (places, (clears, (modules, (words, (kinds, e)))))))))) =
       let n = le 4 a (p + 8) in
       let at : r .H ≡ H = ap (λ (s : Reading). s .H) e in
       let end : r .E ≡ p + 12 + 4 * n = ap (λ (s : Reading). s .E) e in
@@ -67,7 +69,12 @@ module _ (a b : List ℕ) (r : Reading) (least : ℕ) (same : Framed a b r least
             middle (H + 36) 8 (omega arith) (omega arith),
             λ k. (
               rw c at (same .marks),
-              λ l. (high (p + 12) (4 * n) (omega arith) (omega arith), low (H + 11) 13 (omega arith), rw at at (same .extended)),
+              λ l. (
+                high (p + 12) (4 * n) (omega arith) (omega arith),
+                low (H + 11) 13 (omega arith),
+                rw at at (same .extended),
+                rw at at (same .modules),
+              ),
             ),
           ),
         ),
@@ -92,10 +99,12 @@ module _ (a b : List ℕ) (r : Reading) (least : ℕ) (same : Framed a b r least
 
   -- the header stands where the reading says
   at-table : (H p end : ℕ) → Passed (fromTable a H p end) r → r .H ≡ H
-  unfolding fromTable fromPatch fromRegion fromEntries accepted
-  at-table H p end (inl (there, (ext, (fits, (region, (marks, (types, (reserved, (places, (clears, e)))))))))) =
+  unfolding fromTable fromPatch fromRegion fromEntries fromModules accepted
+  at-table H p end
+      (inl (there, (ext, (fits, (region, (marks, (types, (reserved, (places, (clears, (modules, (words, (kinds, e))))))))))))) =
       ap (λ (s : Reading). s .H) e
-  at-table H p end (inr (none, (fits, (region, (marks, (types, (reserved, (places, (clears, e))))))))) = ap (λ (s : Reading). s .H) e
+  at-table H p end (inr (none, (fits, (region, (marks, (types, (reserved, (places, (clears, (modules, (words, (kinds, e)))))))))))) =
+      ap (λ (s : Reading). s .H) e
 
   header : (f size : ℕ) → Passed (fromHeader a f size) r → (r .H ≡ f + 28) × (f + 112 ≤ r .E) × AlikeHeader a b f size
   unfolding fromHeader fromComponent
@@ -135,7 +144,7 @@ module _ (a b : List ℕ) (r : Reading) (least : ℕ) (same : Framed a b r least
       )
 
 -- two images that agree so have one reading but for the base, which is the other's own base word
-framed : (a b : List ℕ) (least : ℕ) → reading a .number ≡ 0 → Framed a b (reading a) least
+pub framed : (a b : List ℕ) (least : ℕ) → reading a .number ≡ 0 → Framed a b (reading a) least
     → Holds (legalBase (length b) (le 4 b (reading a .H + 28))) → reading b ≡ rebased (reading a) (le 4 b (reading a .H + 28))
 framed a b least e same legal =
     let r = reading a in
@@ -150,8 +159,9 @@ framed a b least e same legal =
 
 -- an image that agrees with an accepted one there has the same reading but for the base, which is its own base word
 pub frame-below : (a b : List ℕ) → reading a .number ≡ 0 → AlikeBelow a b (reading a)
+    → walked a (le 8 a 32) (fileAt (reading a)) ≡ walked b (le 8 b 32) (fileAt (reading a))
     → Holds (legalBase (length b) (le 4 b (reading a .H + 28))) → reading b ≡ rebased (reading a) (le 4 b (reading a .H + 28))
-frame-below a b e same legal =
+frame-below a b e same modules legal =
     let g = guaranteed a e in
     framed a b 72 e
     (record {
@@ -162,25 +172,5 @@ frame-below a b e same legal =
       extended = λ six. record { same = λ j l. same .above (reading a .H + 76 + j) (omega arith) (omega (arith, g)) };
       marks = same .marks;
       header-long = λ h. h;
+      modules = modules;
     }) legal
-
--- below header revision 6, where the header's own bytes stand at H+76 and H+77, no reading looks at those two
-pub unlooked : (a b : List ℕ) → reading a .number ≡ 0 → le 1 a (reading a .H + 11) < 6 → 78 ≤ le 4 a (reading a .H + 4)
-    → length a ≡ length b
-    → ((k : ℕ) → (k < reading a .H + 76) ⊎ (reading a .H + 78 ≤ k) → getD a k 0 ≡ getD b k 0) → reading b ≡ reading a
-unlooked a b e below wide long same =
-    let r = reading a in
-    let g = guaranteed a e in
-    let base : le 4 b (r .H + 28) ≡ r .base =
-    sym (le-cong 4 a b (r .H + 28) (record { same = λ j l. same (r .H + 28 + j) (inl (omega arith)) })) ∙ sym (g .base-is) in
-    framed a b 78 e
-    (record {
-      long = long;
-      below = λ k h. same k (inl (omega arith));
-      within = λ k h l. same k (inl l);
-      above = λ k h l. same k (inr h);
-      extended = λ six. absurd (omega arith);
-      marks = record { same = λ j l. same (r .c + 6 + j) (inr (omega (arith, g))) };
-      header-long = λ h. wide;
-    }) (rw (base, ← long) (g .legal))
-    ∙ ap (λ (w : ℕ). rebased r w) base

@@ -4,6 +4,9 @@ pub mod After
 pub mod Guarantee
 pub mod Frame
 pub mod FrameBelow
+pub mod Words
+pub mod WordsLaws
+pub mod FrameBut
 pub mod Small
 pub mod Damaged
 pub mod Numbers

@@ -18,7 +18,7 @@ use Rattle.image.specs.After.{afterReading, after-accepted, after-refuse
 
 -- the numbers of a reading
 abbrev pub Known : ℕ → Type 0
-Known k = (k ≤ 14) ⊎ (k ≡ 22)
+Known k = (k ≤ 14) ⊎ ((k ≡ 22) ⊎ ((25 ≤ k) × (k ≤ 27)))
 
 -- those that name an entry
 abbrev pub OfEntry : ℕ → Type 0
@@ -38,8 +38,11 @@ module _ (xs : List ℕ) where
   whole : (k : ℕ) → k ≤ 14 → Numbered xs None k 0
   whole k h = record { known = inl (inl h); entry = inl refl }
 
+  of-modules : (k : ℕ) → (25 ≤ k) × (k ≤ 27) → Numbered xs None k 0
+  of-modules k h = record { known = inl (inr (inr h)); entry = inl refl }
+
   at-entry : (k : ℕ) → OfEntry k → (i : ℕ) → i < n xs → Numbered xs None k i
-  at-entry k h i e = record { known = inl (elim h [ inl l ↦ inl (l .1) | inr l ↦ inr l ]); entry = inr (h, e) }
+  at-entry k h i e = record { known = inl (elim h [ inl l ↦ inl (l .1) | inr l ↦ inr (inl l) ]); entry = inr (h, e) }
 
   pub numbered : Numbered xs None (reading xs .number) (reading xs .index)
   unfolding reading rules accepted
@@ -74,7 +77,19 @@ module _ (xs : List ℕ) where
                                   at-entry 12 (inl (omega arith)),
                                   (
                                     at-entry 22 (inr refl),
-                                    (at-entry 13 (inl (omega arith)), (at-entry 14 (inl (omega arith)), whole 0 (omega arith))),
+                                    (
+                                      at-entry 13 (inl (omega arith)),
+                                      (
+                                        at-entry 14 (inl (omega arith)),
+                                        (
+                                          (λ b. of-modules 25 (omega arith)),
+                                          λ g. (
+                                            (λ b. of-modules 26 (omega arith)),
+                                            λ g. ((λ b. of-modules 27 (omega arith)), λ g. whole 0 (omega arith)),
+                                          ),
+                                        ),
+                                      ),
+                                    ),
                                   ),
                                 ),
                               ),
@@ -121,7 +136,19 @@ module _ (xs : List ℕ) where
                               (λ b h. refl),
                               λ g. (
                                 (λ b h. refl),
-                                λ g. ((λ i l h. refl), ((λ i l h. refl), ((λ i l h. refl), ((λ i l h. refl), (λ h. absurd (h refl)))))),
+                                λ g. (
+                                  (λ i l h. refl),
+                                  (
+                                    (λ i l h. refl),
+                                    (
+                                      (λ i l h. refl),
+                                      (
+                                        (λ i l h. refl),
+                                        ((λ b h. refl), λ g. ((λ b h. refl), λ g. ((λ b h. refl), λ g h. absurd (h refl)))),
+                                      ),
+                                    ),
+                                  ),
+                                ),
                               ),
                             ),
                           ),
@@ -179,7 +206,16 @@ module _ (xs : List ℕ) where
                                   λ i l. other 12 (omega arith),
                                   (
                                     λ i l. other 22 (omega arith),
-                                    (λ i l. other 13 (omega arith), (λ i l. other 14 (omega arith), λ e. omega arith)),
+                                    (
+                                      λ i l. other 13 (omega arith),
+                                      (
+                                        λ i l. other 14 (omega arith),
+                                        (
+                                          (λ b. other 25 (omega arith)),
+                                          λ g. ((λ b. other 26 (omega arith)), λ g. ((λ b. other 27 (omega arith)), λ g e. omega arith)),
+                                        ),
+                                      ),
+                                    ),
                                   ),
                                 ),
                               ),

@@ -1,6 +1,6 @@
--- Document 01, "Reading an image": what a reading gives, the document's letters, and its rules from 1 to 14, document 02's 22 among them.
--- The checks themselves stand in the crates of the layers: `Volume` (1 to 4), `Header` and `Base` (5 to 8), `Table` (9), `Region` (10, 11),
--- `Entry` and `Passes` (12 to 14, 22).
+-- Document 01, "Reading an image": what a reading gives, the document's letters, and its rules from 1 to 14, document 02's 22 among them and
+-- its 25 to 27 after them. The checks themselves stand in the crates of the layers: `Volume` (1 to 4), `Header` and `Base` (5 to 8), `Table`
+-- (9), `Region` (10, 11), `Entry` and `Passes` (12 to 14, 22), `Rules` of `sound` (25 to 27).
 -- Assumes nothing.
 use Prim.Native.Nat.{ℕ, _+_, _-_, _*_}
 use mathlib.Core.Bool.{cond}
@@ -16,6 +16,7 @@ use Rattle.header.specs.Base.{legalBase}
 use Rattle.table.specs.Table.{round4, extended, extendedFits, patchFits}
 use Rattle.table.specs.Passes.{place, unrefused, clear}
 use Rattle.region.specs.Region.{regionFits, marksFit}
+use Rattle.sound.specs.Rules.{modulesFit, wordsFit, typesFit}
 use Rattle.image.specs.declared.Identity.{Identity}
 use Rattle.image.specs.declared.Reading.{Reading}
 
@@ -76,6 +77,10 @@ rebased r w =
 -- where the entries of the patch table start
 abbrev pub entriesAt : Reading → ℕ
 entriesAt r = r .E - 4 * r .n
+
+-- where the header file starts
+abbrev pub fileAt : Reading → ℕ
+fileAt r = r .H - 28
 
 -- where the i-th patch word stands
 abbrev pub wordAt : List ℕ → Reading → ℕ → ℕ
@@ -162,7 +167,10 @@ module _ (xs : List ℕ) where
       (pass 22 (unrefused 22 xs t) n
       (pass 13 (unrefused 13 xs t) n
       (pass 14 (clear xs t E c z) n
-      (answer (accepted xs H t n c z))))))))))))))))))
+      (rule 25 (modulesFit xs v f c z)
+      (rule 26 (wordsFit xs v f t n c z)
+      (rule 27 (typesFit xs v f)
+      (answer (accepted xs H t n c z)))))))))))))))))))))
 
   -- the reading
   unfoldable pub reading : Reading

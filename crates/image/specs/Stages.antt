@@ -1,10 +1,12 @@
 -- The rules of a reading as the code goes through them, stage by stage: each stage is a check or two and then the next. Each definition
 -- names the one that follows it, so they stand from the last to the first. `by-stages` says that they are the rules of `Reading`.
 -- Assumes nothing.
-use Prim.Native.Nat.{ℕ, _+_, _*_}
+use Prim.Native.Nat.{ℕ, _+_, _-_, _*_}
 use mathlib.Core.Bool.{Bool, true, false, not, cond, _||_}
 use mathlib.Core.List.{List}
 use mathlib.Core.Path.{_≡_, refl}
+use native.Mathlib.Omega.{arith}
+use lib.Dec.{eqb}
 use lib.ListN.{length}
 use Rattle.facts.specs.Fact.{_≡?_, deny, _or_, test}
 use Rattle.facts.specs.Rules.{Rules, answer, rule, pass, choose, run}
@@ -15,16 +17,26 @@ use Rattle.header.specs.Base.{legalBase}
 use Rattle.table.specs.Table.{round4, extended, extendedFits, patchFits}
 use Rattle.table.specs.Passes.{unrefused, clear}
 use Rattle.region.specs.Region.{regionFits, marksFit}
+use Rattle.sound.specs.Rules.{modulesFit, wordsFit, typesFit}
+use Rattle.contents.specs.Contents.{contentsNumber}
 use Rattle.image.specs.declared.Reading.{Reading}
 use Rattle.image.specs.Reading as the
 use Rattle.image.specs.Reading.{refusal, accepted, rules, reading}
+
+-- 25, 26, 27
+unfoldable pub fromModules : List ℕ → ℕ → ℕ → ℕ → ℕ → ℕ → Rules Reading
+fromModules xs H t n c z =
+    let v = le 8 xs 32 in
+    let f = H - 28 in
+    rule 25 (modulesFit xs v f c z)
+    (rule 26 (wordsFit xs v f t n c z) (rule 27 (typesFit xs v f) (answer (accepted xs H t n c z))))
 
 -- 12, 22, 13, 14
 unfoldable pub fromEntries : List ℕ → ℕ → ℕ → ℕ → ℕ → ℕ → Rules Reading
 fromEntries xs H t n c z =
     pass 12 (unrefused 12 xs t) n
     (pass 22 (unrefused 22 xs t) n
-    (pass 13 (unrefused 13 xs t) n (pass 14 (clear xs t (t + 4 * n) c z) n (answer (accepted xs H t n c z)))))
+    (pass 13 (unrefused 13 xs t) n (pass 14 (clear xs t (t + 4 * n) c z) n (fromModules xs H t n c z))))
 
 -- 10, 11
 unfoldable pub fromRegion : List ℕ → ℕ → ℕ → ℕ → Rules Reading
@@ -113,6 +125,29 @@ module _ (xs : List ℕ) where
       pick (test (the.x xs ≡? 0)) (test (extensionFits xs (the.h xs) (the.v xs) (the.x xs)))
       (λ (q : ℕ). run refusal (fromFile xs (the.v xs) q)) (round8 (the.h xs)) (round8 (the.x xs + the.e xs)) (refusal 2 0)
 
+  -- the header file, from the header in it
+  back : the.H xs - 28 ≡ the.f xs
+  back = omega arith
+
   pub by-stages : reading xs ≡ run refusal (stages xs)
-  unfolding reading rules stages fromVolume fromFile fromSection fromHeader fromComponent fromPatch fromRegion fromEntries run
-  by-stages = rw (extension, table)
+  unfolding reading rules stages fromVolume fromFile fromSection fromHeader fromComponent fromPatch fromRegion fromEntries fromModules run
+  by-stages = rw (extension, table, back)
+
+-- ---- 25, 26 and 27 by the number of the first that isn't passed
+
+three : {T : Type 0} (a b e : Bool) (make : ℕ → T) (end : T)
+    → cond a (cond b (cond e end (make 27)) (make 26)) (make 25)
+    ≡ cond (eqb (cond a (cond b (cond e 0 27) 26) 25) 0) end (make (cond a (cond b (cond e 0 27) 26) 25))
+three false b e make end = refl
+three true false e make end = refl
+three true true false make end = refl
+three true true true make end = refl
+
+pub by-number : (xs : List ℕ) (H t n c z : ℕ)
+    → run refusal (fromModules xs H t n c z)
+    ≡ cond (eqb (contentsNumber xs (le 8 xs 32) (H - 28) t n c z) 0) (accepted xs H t n c z)
+    (refusal (contentsNumber xs (le 8 xs 32) (H - 28) t n c z) 0)
+unfolding fromModules contentsNumber run
+by-number xs H t n c z =
+    three (test (modulesFit xs (le 8 xs 32) (H - 28) c z)) (test (wordsFit xs (le 8 xs 32) (H - 28) t n c z))
+    (test (typesFit xs (le 8 xs 32) (H - 28))) (λ (k : ℕ). refusal k 0) (accepted xs H t n c z)

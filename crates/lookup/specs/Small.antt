@@ -23,6 +23,6 @@ inside = rw small-reads (omega arith, (omega arith, omega arith))
 pub small-found : settingNumber maker 40 2 ≡ 0
 small-found = setting-accepted maker 40 2 read inside .0
 
-pub small-place : settingPlace maker 40 2 ≡ 228
+pub small-place : settingPlace maker 40 2 ≡ 256
 unfolding settingPlace
 small-place = rw (small-found, small-reads)

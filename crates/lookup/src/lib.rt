@@ -37,7 +37,7 @@ fn in_region(region: &[u8], offset: usize, size: usize) -> &[u8]
 pub fn setting(image: &[u8], offset: u64, size: u64) -> &[u8]
     ensures { λ r. ⌜ HandsBack (image .entry) offset size r ⌝ }
 {
-    let r = image::read(image);
+    let r = reading::read(image);
     if r.number != 0 {
         return &image[0..0];
     }
@@ -50,7 +50,7 @@ pub fn setting(image: &[u8], offset: u64, size: u64) -> &[u8]
 pub fn setting_number(image: &[u8], offset: u64, size: u64) -> u32
     ensures { λ r. ⌜ NumberOf (now (image .entry)) offset size r ⌝ }
 {
-    let r = image::read(image);
+    let r = reading::read(image);
     if r.number != 0 {
         return r.number;
     }

@@ -1,5 +1,7 @@
 pub mod Moves
 pub mod MovesLaws
+pub mod Fixed
+pub mod FixedLaws
 pub mod Moving
 pub mod MovingLaws
 pub mod Small

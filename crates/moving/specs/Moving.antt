@@ -1,21 +1,14 @@
--- Document 01, "Moving": what is added to which words, and the answer.
+-- Document 01, "Moving": what is added to which words (`wordsOf`, of `image`), and the answer.
 -- Assumes nothing.
-use Prim.Native.Nat.{ℕ, zero, suc, _+_}
+use Prim.Native.Nat.{ℕ}
 use mathlib.Core.List.{List}
 use mathlib.Core.Path.{_≡_}
 use lib.IntN.{ℤ, pos, _-ℤ_, natAbs}
 use Rattle.image.specs.declared.Reading.{Reading}
-use Rattle.image.specs.Reading.{wordAt, reading}
+use Rattle.image.specs.Reading.{reading}
+use Rattle.image.specs.Words.{wordsOf}
 use Rattle.moving.specs.declared.Moved.{Moved}
 use Rattle.moving.specs.Moves.{Words, difference, moved}
-
--- where the words of a move stand: the base word, then each patch word
-abbrev pub wordsAt : List ℕ → Reading → ℕ → ℕ
-wordsAt xs r zero = r .H + 28
-wordsAt xs r (suc i) = wordAt xs r i
-
-abbrev pub wordsOf : List ℕ → Reading → Words
-wordsOf xs r = record { count = suc (r .n); at = wordsAt xs r; width = λ i. 4 }
 
 -- the image at another base: the difference of the bases is added to each of these words, and wraps
 unfoldable pub moveTo : List ℕ → Reading → ℕ → List ℕ
@@ -28,6 +21,10 @@ refusedMove number index = record { number = number; index = index; distance = p
 -- what an accepted move answers: how far it went, up or down
 abbrev pub acceptedMove : Reading → ℕ → Moved
 acceptedMove r base = record { number = 0; index = 0; distance = pos base -ℤ pos (r .base) }
+
+-- the words of a move of an image that reads
+abbrev pub movedWords : List ℕ → Words
+movedWords xs = wordsOf xs (reading xs)
 
 -- an image that reads, at this base
 unfoldable pub movedImage : List ℕ → ℕ → List ℕ

@@ -1,8 +1,8 @@
--- The small image, moved: its base word and its patch word are others, and no other byte is.
+-- The small image, moved: its base word, its patch word and its module's two words are others, and no other byte is.
 -- Assumes nothing.
 use Prim.Native.Nat.{ℕ}
 use mathlib.Core.List.{List}
-use mathlib.Core.Path.{_≡_, ap}
+use mathlib.Core.Path.{_≡_, refl, ap, _∙_}
 use lib.IntN.{negsuc}
 use Rattle.facts.specs.Fact.{test}
 use Rattle.words.specs.Le.{le}
@@ -10,18 +10,37 @@ use Rattle.words.specs.Put.{digit, put, add}
 use Rattle.words.specs.Number.{number, zeros}
 use Rattle.table.specs.Entry.{placeOf}
 use Rattle.table.specs.Passes.{place}
+use Rattle.facts.specs.Fact.{allBelow}
+use Rattle.volume.specs.Volume.{sumBytes, fileSum}
+use Rattle.items.specs.Items.{wordsIn}
+use Rattle.files.specs.Parts.{sectionsFrom, sectionsAt, filesFrom, firstAt, firstPlace}
+use Rattle.files.specs.Parts as files
+use Rattle.rows.specs.Rows.{rowAt, judged}
+use Rattle.modules.specs.Modules.{teOf, moduleOf}
+use Rattle.places.specs.Places.{shifted, found}
+use Rattle.blocks.specs.Blocks.{headItem, headsFrom, headCount, wordOf, itemOf, entriesFrom, blocksFrom, items}
+use Rattle.whole.specs.Whole.{moduleIn, itemFor, spread, walked}
+use Rattle.sound.specs.Rules.{patchFrom}
+use Rattle.image.specs.Words.{met}
 use Rattle.image.specs.declared.Reading.{Reading}
 use Rattle.image.specs.Reading.{reading}
-use Rattle.image.specs.Small.{small, settingBytes, small-reads}
+use Rattle.image.specs.Small.{small, settingBytes, smallReading, small-reads}
 use Rattle.moving.specs.Moves.{difference, movedTo}
 use Rattle.moving.specs.Moving.{acceptedMove, moveTo, movedImage}
 
 abbrev maker : List ℕ
 maker = small 0xFFF80000 0xFFF80040 (settingBytes 0 1)
 
+pub small-moves : (a b : ℕ)
+    → moveTo (small 0xFFF80000 0xFFF80040 (settingBytes a b)) smallReading 0x00100000 ≡ small 0x00100000 0x00100040 (settingBytes a b)
+unfolding small number zeros digit le test placeOf place moveTo movedTo difference add put met wordsIn patchFrom allBelow sumBytes
+    fileSum walked spread moduleIn itemFor items sectionsFrom sectionsAt filesFrom firstAt firstPlace files.ahead rowAt judged teOf moduleOf
+    shifted found headItem headsFrom headCount wordOf itemOf entriesFrom blocksFrom
+small-moves a b = refl
+
 pub small-moved : movedImage maker 0x00100000 ≡ small 0x00100000 0x00100040 (settingBytes 0 1)
-unfolding small number zeros digit le test placeOf place moveTo movedImage movedTo difference add put
-small-moved = ap (λ (r : Reading). moveTo maker r 0x00100000) small-reads
+unfolding movedImage
+small-moved = ap (λ (r : Reading). moveTo maker r 0x00100000) small-reads ∙ small-moves 0 1
 
 -- how far it goes: down by 4,293,394,432
 pub small-move : acceptedMove (reading maker) 0x00100000 ≡ record { number = 0; index = 0; distance = negsuc 4293394431 }

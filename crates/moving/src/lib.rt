@@ -6,7 +6,10 @@ ghost use lib.IntN.{pos, _-ℤ_};
 ghost use lib.ListN.{length};
 ghost use Rattle.image.specs.Guarantee.{Guaranteed};
 ghost use Rattle.moving.specs.Moves.{difference, moved};
-ghost use Rattle.moving.specs.Moving.{wordsAt, wordsOf, moveTo, refusedMove, acceptedMove, Magnitude};
+ghost use Rattle.image.specs.Words.{wordsOf};
+ghost use Rattle.relocate.specs.Relocate.{shift};
+ghost use Rattle.moving.specs.Fixed.{fixedAt, fixedOf};
+ghost use Rattle.moving.specs.Moving.{moveTo, refusedMove, acceptedMove, Magnitude};
 
 // The answer of a release: number 0 and the move, new base minus old; or the refusal's number and index.
 pub struct Moved {
@@ -26,10 +29,10 @@ pub fn refused(number: u32, index: usize) -> Moved
     }
 }
 
-// Where the i-th word of a move stands: the base word, then each patch word.
+// Where the i-th of the tables' words stands: the base word, then each patch word.
 fn word_place(image: &[u8], r: Reading, i: usize) -> usize
     requires { ⌜ (r .E ≤ length (now image)) × (r .H + 84 + 4 * r .n ≤ r .E) × (i ≤ r .n) ⌝ }
-    ensures { λ p. ⌜ p ≡ wordsAt (now (image .entry)) r i ⌝ }
+    ensures { λ p. ⌜ p ≡ fixedAt (now (image .entry)) r i ⌝ }
 {
     if i == 0 {
         return r.H + 28;
@@ -37,10 +40,10 @@ fn word_place(image: &[u8], r: Reading, i: usize) -> usize
     table::point_at(image, r.E - 4 * r.n, i - 1).at
 }
 
-// Adds d, with wraparound, to each word of a move.
-fn move_words(image: &mut [u8], r: Reading, d: u32)
+// Adds d, with wraparound, to each of the tables' words.
+fn move_fixed(image: &mut [u8], r: Reading, d: u32)
     requires { ⌜ Guaranteed (now image) r ⌝ }
-    ensures { λ _. ⌜ now (image .exit) ≡ moved (now (image .entry)) (wordsOf (now (image .entry)) r) (λ w. d) ⌝ }
+    ensures { λ _. ⌜ now (image .exit) ≡ moved (now (image .entry)) (fixedOf (now (image .entry)) r) (λ w. d) ⌝ }
 {
     let mut i = 0;
     while i <= r.n {
@@ -48,6 +51,16 @@ fn move_words(image: &mut [u8], r: Reading, d: u32)
         words::add32(image, p, d);
         i += 1;
     }
+}
+
+// Adds `four` to each word of a move that has 4 bytes and `eight` to each that has 8, with wraparound: the tables' words, then the modules'.
+fn move_words(image: &mut [u8], r: Reading, four: u32, eight: u64)
+    requires { ⌜ Guaranteed (now image) r ⌝ }
+    ensures { λ _. ⌜ now (image .exit) ≡ moved (now (image .entry)) (wordsOf (now (image .entry)) r) (shift four eight) ⌝ }
+{
+    move_fixed(image, r, four);
+    let v = words::le64(image, 32);
+    relocate::words(image, v, r.H - 28, four, eight);
 }
 
 // new minus old.
@@ -93,5 +106,7 @@ pub fn move_to(image: &mut [u8], r: Reading, base: u64)
     requires { ⌜ Guaranteed (now image) r × (base < 2 ^ 32) ⌝ }
     ensures { λ _. ⌜ now (image .exit) ≡ moveTo (now (image .entry)) r base ⌝ }
 {
-    move_words(image, r, modular_difference(r.base, base));
+    let four = modular_difference(r.base, base);
+    let eight = relocate::wide_difference(r.base, base);
+    move_words(image, r, four, eight);
 }

@@ -22,9 +22,11 @@ use Rattle.release.specs.ReleaseLaws.{release-kept}
 use Rattle.released.specs.Theorems.{OwnRelease, release-numbered}
 use Rattle.audit.specs.Audit.{auditing, listedBytes}
 use Rattle.audit.specs.AuditLaws.{OwnAudit, audit-numbered, bytes-kept}
-use Rattle.answers.specs.Answers.{ifRoom, result, answered, readFields, moveFields, sheetFields, finding, settingFields, auditFields}
+use Rattle.listing.specs.Listing.{contents, contentsIn}
+use Rattle.listing.specs.Theorems.{OwnList, listing-numbered, contents-kept}
+use Rattle.answers.specs.Answers.{ifRoom, result, answered, readFields, moveFields, sheetFields, finding, settingFields, auditFields, listFields}
 use Rattle.answers.specs.AnswerLaws.{roomy, short, found-refused, found-accepted}
-use Rattle.pajurenda.specs.Promises.{ReadCall, ReleaseCall, SheetCall, SettingCall, AuditCall}
+use Rattle.pajurenda.specs.Promises.{ReadCall, ReleaseCall, SheetCall, SettingCall, AuditCall, ContentsCall}
 
 -- the answer has no room: 100, and the answer's buffer is what it was
 abbrev pub NoRoom : ℕ → List ℕ → List ℕ → Type 0
@@ -40,6 +42,8 @@ Demand1-C =
     → NoRoom r A a ⊎ Numbered xs OwnLookup r 0)
     × ((xs ys bytes A : List ℕ) (r : ℕ) (l a : List ℕ) → AuditCall xs ys bytes A r l a
     → (NoRoom r A a ⊎ Numbered xs OwnAudit r (auditing xs ys (length bytes / 4) .index)) × ((r ≡ 0 → ⊥) → l ≡ bytes))
+    × ((xs bytes A : List ℕ) (r : ℕ) (l a : List ℕ) → ContentsCall xs bytes A r l a
+    → (NoRoom r A a ⊎ Numbered xs OwnList r (contents xs (length bytes) .index)) × ((r ≡ 0 → ⊥) → l ≡ bytes))
 
 -- ---- it holds
 
@@ -98,5 +102,10 @@ demand-1-C = (
     by-room A (auditFields (auditing xs ys (length bytes / 4))) 7 (auditing xs ys (length bytes / 4) .number) r a refl (is .0) (is .1 .1)
         (λ k. Numbered xs OwnAudit k (auditing xs ys (length bytes / 4) .index)) (audit-numbered xs ys (length bytes / 4)),
     kept A 7 (auditing xs ys (length bytes / 4) .number) r (listedBytes xs ys bytes) bytes l (is .0) (is .1 .0) (bytes-kept xs ys bytes),
+  )),
+  (λ xs bytes A r l a is. (
+    by-room A (listFields (contents xs (length bytes))) 5 (contents xs (length bytes) .number) r a refl (is .0) (is .1 .1)
+        (λ k. Numbered xs OwnList k (contents xs (length bytes) .index)) (listing-numbered xs (length bytes)),
+    kept A 5 (contents xs (length bytes) .number) r (contentsIn xs bytes) bytes l (is .0) (is .1 .0) (contents-kept xs bytes),
   )),
 )

@@ -40,7 +40,11 @@ use Rattle.walk.specs.FlipLaws.{flips-most}
 use Rattle.audit.specs.declared.Audited.{Audited}
 use Rattle.audit.specs.Audit.{reference, differing, refusedAudit, tally, auditing}
 use Rattle.audit.specs.AuditLaws.{OwnAudit, audit-numbered}
-use Rattle.answers.specs.Answers.{twos, readFields, moveFields, sheetFields, finding, settingFields, auditFields}
+use Rattle.listing.specs.declared.Listed.{Listed}
+use Rattle.listing.specs.Listing.{refusedList, contents}
+use Rattle.listing.specs.ListingLaws.{counts-few}
+use Rattle.listing.specs.Theorems.{OwnList, listing-numbered}
+use Rattle.answers.specs.Answers.{twos, readFields, moveFields, sheetFields, finding, settingFields, auditFields, listFields}
 use Rattle.answers.specs.AnswerLaws.{found-refused, found-accepted}
 use Rattle.answers.specs.declared.Found.{Found}
 
@@ -58,7 +62,12 @@ small-at (x ∷ l) (h, t) (suc j) = small-at l t j
 number-small : (xs : List ℕ) (own : ℕ → Type 0) (number index : ℕ) → ((k : ℕ) → own k → k ≤ 24) → Numbered xs own number index
     → number < 2 ^ 64
 number-small xs own number index most h =
-    elim (h .known) [ inl (inl l) ↦ omega arith | inl (inr l) ↦ omega arith | inr o ↦ omega (arith, most number o) ]
+    elim (h .known) [
+      | inl (inl l) ↦ omega arith
+      | inl (inr (inl l)) ↦ omega arith
+      | inl (inr (inr l)) ↦ omega (arith, l .1)
+      | inr o ↦ omega (arith, most number o)
+    ]
 
 -- ---- a reading
 
@@ -265,3 +274,22 @@ entries-small r ref ys k (suc n) h i =
         → getD (entries r (k ∷ differences ref ys (suc k) n)) j 0 < 2 ^ 32
     first zero rest = by-test (λ (v : ℕ). v < 2 ^ 32) (setting r k) k (k + 16777216) (λ s. omega arith) (λ s. omega arith)
     first (suc j) rest = rest j
+
+-- ---- what an image holds
+
+abbrev Tallied : Listed → Type 0
+Tallied a = (a .modules < 2 ^ 64) × (a .words < 2 ^ 64) × (a .entries < 2 ^ 64)
+
+tallied : (xs : List ℕ) (room : ℕ) → Bytes xs → Tallied (contents xs room)
+unfolding contents
+tallied xs room b =
+    after-every refusedList Tallied xs _ (λ h. (omega arith, omega arith, omega arith))
+    (λ ok. let (m, w, e) = counts-few xs b ok in (omega (arith, m), omega (arith, w), omega (arith, e)))
+
+pub contents-small : (xs : List ℕ) (room : ℕ) → Bytes xs → Small (listFields (contents xs room))
+contents-small xs room b =
+    let numbers = listing-numbered xs room in
+    let (modules, words, entries) = tallied xs room b in (
+      number-small xs OwnList _ _ (λ k o. omega arith) numbers,
+      (omega (arith, index-small xs OwnList _ _ b numbers), (modules, (words, (entries, tt)))),
+    )

@@ -2,5 +2,4 @@ pub mod Promises
 pub mod FieldLaws
 pub mod Theorems
 pub mod Small
-pub mod StationLaws
 pub mod Demand

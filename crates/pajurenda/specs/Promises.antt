@@ -8,17 +8,14 @@ use Rattle.image.specs.Reading.{reading}
 use Rattle.sheet.specs.ReadSheet.{sheetReading}
 use Rattle.release.specs.Release.{releasing, releasedImage}
 use Rattle.audit.specs.Audit.{auditing, listedBytes}
+use Rattle.listing.specs.Listing.{contents, contentsIn}
 use Rattle.handoff.specs.Step.{stepped}
 use Rattle.handoffs.specs.Blocks.{blocks, counted}
 use Rattle.answers.specs.Steps.{stepFields, countFields}
-use Rattle.answers.specs.Answers.{ifRoom, result, answered, readFields, moveFields, sheetFields, finding, settingFields, auditFields}
-use mathlib.Core.Bool.{cond}
-use Rattle.facts.specs.Fact.{_≤?_, test}
-use Rattle.words.specs.Le.{le}
+use Rattle.answers.specs.Answers.{ifRoom, result, answered, readFields, moveFields, sheetFields, finding, settingFields, auditFields, listFields}
 use Rattle.words.specs.Put.{put}
-use Rattle.image.specs.After.{unlessRefused}
-use Rattle.order.specs.declared.Answer.{Answer}
-use Rattle.order.specs.Order.{atReset, ordered}
+use Rattle.order.specs.Order.{atReset}
+use Rattle.stored.specs.Stored.{stationed, stationBytes}
 
 -- `pajurenda_read`
 abbrev pub ReadCall : List ℕ → List ℕ → ℕ → List ℕ → Type 0
@@ -45,6 +42,12 @@ AuditCall xs ys bytes A r l a =
     (r ≡ result 7 A (auditing xs ys (length bytes / 4) .number))
     × ((l ≡ ifRoom 7 A (listedBytes xs ys bytes) bytes) × (a ≡ answered A (auditFields (auditing xs ys (length bytes / 4)))))
 
+-- `pajurenda_contents`; bytes is the list before, l afterwards
+abbrev pub ContentsCall : List ℕ → List ℕ → List ℕ → ℕ → List ℕ → List ℕ → Type 0
+ContentsCall xs bytes A r l a =
+    (r ≡ result 5 A (contents xs (length bytes) .number))
+    × ((l ≡ ifRoom 5 A (contentsIn xs bytes) bytes) × (a ≡ answered A (listFields (contents xs (length bytes)))))
+
 -- `pajurenda_handoff`
 abbrev pub HandoffCall : List ℕ → ℕ → List ℕ → ℕ → List ℕ → Type 0
 HandoffCall xs at A r a = (r ≡ result 10 A (stepped xs at .number)) × (a ≡ answered A (stepFields (stepped xs at)))
@@ -55,14 +58,6 @@ HandoffsCall xs A r a = (r ≡ result 3 A (counted (blocks xs) .number)) × (a �
 
 -- ---- request #108, the station: its state is the number that the first eight bytes hold
 
--- the answer of the step in that state
-abbrev pub stationed : List ℕ → ℕ → ℕ → Answer
-stationed xs call n = ordered (le 8 xs 0) call n
-
--- the bytes afterwards, where there are eight: the next state, and what followed it; a refused call changes none
-abbrev pub stationBytes : List ℕ → ℕ → ℕ → List ℕ
-stationBytes xs call n = unlessRefused (stationed xs call n .number) (put 8 xs 0 (stationed xs call n .state)) xs
-
 -- `pajurenda_station`; ys is the state's buffer afterwards
 abbrev pub StationCall : List ℕ → ℕ → ℕ → ℕ → List ℕ → Type 0
 StationCall xs call n r ys = (r ≡ result 1 xs (stationed xs call n .number)) × (ys ≡ ifRoom 1 xs (stationBytes xs call n) xs)
@@ -70,7 +65,3 @@ StationCall xs call n r ys = (r ≡ result 1 xs (stationed xs call n .number)) �
 -- `pajurenda_station_reset`
 abbrev pub StationResetCall : List ℕ → ℕ → List ℕ → Type 0
 StationResetCall xs r ys = (r ≡ result 1 xs 0) × (ys ≡ ifRoom 1 xs (put 8 xs 0 atReset) xs)
-
--- the state that a record of 32 bits stands in for the number w
-abbrev pub stateOf : ℕ → ℕ
-stateOf w = cond (test (w ≤? 4294967295)) w 4294967295

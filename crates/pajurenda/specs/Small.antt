@@ -22,13 +22,16 @@ use Rattle.released.specs.Small.{two, small-release}
 use Rattle.audit.specs.declared.Audited.{Audited}
 use Rattle.audit.specs.Audit.{auditing}
 use Rattle.audit.specs.Small.{shipped, small-audit}
+use Rattle.listing.specs.declared.Listed.{Listed}
+use Rattle.listing.specs.Listing.{contents}
+use Rattle.listing.specs.Small.{small-contents}
 use Rattle.answers.specs.declared.Found.{Found}
-use Rattle.answers.specs.Answers.{ifRoom, result, answered, twos, readFields, moveFields, sheetFields, finding, settingFields, auditFields}
+use Rattle.answers.specs.Answers.{ifRoom, result, answered, twos, readFields, moveFields, sheetFields, finding, settingFields, auditFields, listFields}
 use Rattle.answers.specs.AnswerLaws.{found-accepted}
 use mathlib.Core.List.{[], _∷_}
 use Rattle.image.specs.After.{unlessRefused}
 use Rattle.order.specs.Order.{tempRamInit, atReset, noted, byRows, ordered}
-use Rattle.pajurenda.specs.Promises.{stationed, stationBytes}
+use Rattle.stored.specs.Stored.{stationed, stationBytes}
 
 abbrev maker : List ℕ
 maker = small 0xFFF80000 0xFFF80040 (settingBytes 0 1)
@@ -40,7 +43,7 @@ pub read-answer : answered (zeros 96) (readFields (reading maker))
     ++ (number 8 100
     ++ (number 8 1
     ++ (number 8 0x31302D5441455254
-    ++ (number 8 0x01020304 ++ (number 8 0xFFF80000 ++ (number 8 188 ++ (number 8 48 ++ (number 8 1 ++ (number 8 188 ++ number 8 0))))))))))
+    ++ (number 8 0x01020304 ++ (number 8 0xFFF80000 ++ (number 8 216 ++ (number 8 48 ++ (number 8 1 ++ (number 8 188 ++ number 8 0))))))))))
 unfolding ifRoom test putAll put digit number zeros
 read-answer = ap (λ (r : Reading). answered (zeros 96) (readFields r)) small-reads
 
@@ -57,7 +60,7 @@ unfolding ifRoom test putAll put digit number zeros sheetReading run allBelow le
 sheet-answer = refl
 
 -- number, place, length
-pub setting-answer : answered (zeros 24) (settingFields (finding maker 40 2)) ≡ number 8 0 ++ (number 8 228 ++ number 8 2)
+pub setting-answer : answered (zeros 24) (settingFields (finding maker 40 2)) ≡ number 8 0 ++ (number 8 256 ++ number 8 2)
 unfolding ifRoom test putAll put digit number zeros
 setting-answer =
     ap (λ (r : Found). answered (zeros 24) (settingFields r)) (found-accepted maker 40 2 small-found)
@@ -69,6 +72,12 @@ pub audit-answer : answered (zeros 56) (auditFields (auditing maker shipped 3))
     ≡ number 8 0 ++ (number 8 0 ++ (number 8 0x00100000 ++ (number 8 2 ++ (number 8 1 ++ (number 8 2 ++ number 8 0)))))
 unfolding ifRoom test putAll put digit number zeros
 audit-answer = ap (λ (r : Audited). answered (zeros 56) (auditFields r)) small-audit
+
+-- number, index, modules, words, entries
+pub contents-answer : answered (zeros 40) (listFields (contents maker 24))
+    ≡ number 8 0 ++ (number 8 0 ++ (number 8 1 ++ (number 8 4 ++ number 8 6)))
+unfolding ifRoom test putAll put digit number zeros
+contents-answer = ap (λ (r : Listed). answered (zeros 40) (listFields r)) small-contents
 
 -- one byte less, and the result is 100
 pub short-result : (k : ℕ) → result 12 (zeros 95) k ≡ 100

@@ -18,7 +18,7 @@ use Rattle.audit.specs.Audit.{reference, differing, auditing, listedBytes}
 use Rattle.audit.specs.AuditLaws.{Accepted, audit-accepted, fits}
 use Rattle.answers.specs.Answers.{answered}
 use Rattle.answers.specs.AnswerLaws.{roomy, short}
-use Rattle.pajurenda.specs.Promises.{ReadCall, ReleaseCall, SheetCall, SettingCall, AuditCall, HandoffCall, HandoffsCall}
+use Rattle.pajurenda.specs.Promises.{ReadCall, ReleaseCall, SheetCall, SettingCall, AuditCall, ContentsCall, HandoffCall, HandoffsCall}
 use Rattle.pajurenda.specs.FieldLaws.{Small, small-at, entries-small}
 use Rattle.pajurenda.specs.Promises.{StationCall, StationResetCall}
 
@@ -86,6 +86,10 @@ one-setting-call xs A offset size r s a b (e, f) (g, h) = (e ∙ sym g, f ∙ sy
 pub one-audit-call : (xs ys bytes A : List ℕ) (r s : ℕ) (a b l m : List ℕ) → AuditCall xs ys bytes A r l a → AuditCall xs ys bytes A s m b
     → (r ≡ s) × (l ≡ m) × (a ≡ b)
 one-audit-call xs ys bytes A r s a b l m (e, (f, g)) (h, (k, n)) = (e ∙ sym h, f ∙ sym k, g ∙ sym n)
+
+pub one-contents-call : (xs bytes A : List ℕ) (r s : ℕ) (a b l m : List ℕ) → ContentsCall xs bytes A r l a → ContentsCall xs bytes A s m b
+    → (r ≡ s) × (l ≡ m) × (a ≡ b)
+one-contents-call xs bytes A r s a b l m (e, (f, g)) (h, (k, n)) = (e ∙ sym h, f ∙ sym k, g ∙ sym n)
 
 pub one-handoff-call : (xs A : List ℕ) (at r s : ℕ) (a b : List ℕ) → HandoffCall xs at A r a → HandoffCall xs at A s b → (r ≡ s) × (a ≡ b)
 one-handoff-call xs A at r s a b (e, f) (g, h) = (e ∙ sym g, f ∙ sym h)

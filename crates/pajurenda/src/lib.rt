@@ -1,5 +1,5 @@
 // The library as C calls it. Each answer is written in a lent buffer; the header is include/pajurenda.h.
-ghost use Rattle.pajurenda.specs.Promises.{ReadCall, ReleaseCall, SheetCall, SettingCall, AuditCall, HandoffCall, HandoffsCall};
+ghost use Rattle.pajurenda.specs.Promises.{ReadCall, ReleaseCall, SheetCall, SettingCall, AuditCall, ContentsCall, HandoffCall, HandoffsCall};
 
 // Reads an image.
 #[no_mangle]
@@ -9,7 +9,7 @@ pub extern "C" fn pajurenda_read(image: &[u8], answer: &mut [u8]) -> u32
     if answer.len() < 96 {
         return 100;
     }
-    let r = image::read(image);
+    let r = reading::read(image);
     answers::write_reading(answer, r);
     r.number
 }
@@ -78,6 +78,19 @@ pub extern "C" fn pajurenda_audit(
     r.number
 }
 
+// Lists what an image holds.
+#[no_mangle]
+pub extern "C" fn pajurenda_contents(image: &[u8], places: &mut [u8], answer: &mut [u8]) -> u32
+    ensures { λ r. ⌜ ContentsCall (now (image .entry)) (now (places .entry)) (now (answer .entry)) r (now (places .exit)) (now (answer .exit)) ⌝ }
+{
+    if answer.len() < 40 {
+        return 100;
+    }
+    let r = listing::list_contents(image, places);
+    answers::write_listed(answer, r);
+    r.number
+}
+
 // One step over hand-off blocks.
 #[no_mangle]
 pub extern "C" fn pajurenda_handoff(buffer: &[u8], cursor: u64, answer: &mut [u8]) -> u32
@@ -90,7 +103,7 @@ pub extern "C" fn pajurenda_handoff(buffer: &[u8], cursor: u64, answer: &mut [u8
         at: cursor as usize,
     };
     let s = c.step(buffer);
-    answers::write_step(answer, s);
+    handed::write_step(answer, s);
     s.number
 }
 
@@ -103,23 +116,12 @@ pub extern "C" fn pajurenda_handoffs(buffer: &[u8], answer: &mut [u8]) -> u32
         return 100;
     }
     let r = handoffs::count(buffer);
-    answers::write_counted(answer, r);
+    handed::write_counted(answer, r);
     r.number
 }
 
 // Request #108: the bench's station, its state lent as eight bytes.
-ghost use mathlib.Core.Path.{_≡_};
-ghost use Rattle.pajurenda.specs.Promises.{stateOf, StationCall, StationResetCall};
-
-// The record's state for the number w: one that is none of ours where w doesn't fit.
-fn state_of(w: usize) -> u32
-    ensures { λ r. ⌜ r ≡ stateOf w ⌝ }
-{
-    if 4294967295 < w {
-        return 4294967295;
-    }
-    w as u32
-}
+ghost use Rattle.pajurenda.specs.Promises.{StationCall, StationResetCall};
 
 // One call.
 #[no_mangle]
@@ -129,13 +131,7 @@ pub extern "C" fn pajurenda_station(state: &mut [u8], call: u64, notification: u
     if state.len() < 8 {
         return 100;
     }
-    let known = state_of(words::le64(state, 0));
-    let r = station::call_from(known, call, notification);
-    if r.number != 0 {
-        return r.number;
-    }
-    words::put64(state, 0, r.state as u64);
-    0
+    stored::call_in(state, call, notification)
 }
 
 // A reset.
@@ -146,8 +142,6 @@ pub extern "C" fn pajurenda_station_reset(state: &mut [u8]) -> u32
     if state.len() < 8 {
         return 100;
     }
-    let known = state_of(words::le64(state, 0));
-    let fresh = station::reset_from(known);
-    words::put64(state, 0, fresh as u64);
+    stored::reset_in(state);
     0
 }

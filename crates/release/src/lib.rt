@@ -29,7 +29,7 @@ fn judge_names(
     if !sheet::fields_fit(sheet, r.z) {
         return moving::refused(17, 0);
     }
-    if !owners::fields_owned(sheet, owners, owner) {
+    if !owned::fields_owned(sheet, owners, owner) {
         return moving::refused(24, 0);
     }
     if !header::legal(base, size) {
@@ -56,7 +56,7 @@ fn judge(r: Reading, size: usize, sheet: &[u8], base: u64, owners: &[u8], owner:
 pub fn release(image: &mut [u8], sheet: &[u8], base: u64, owners: &[u8], owner: u64) -> Moved
     ensures { λ m. ⌜ Releases (now (image .entry)) (now (sheet .entry)) base (now (owners .entry)) owner m (now (image .exit)) ⌝ }
 {
-    let r = image::read(image);
+    let r = reading::read(image);
     if r.number != 0 {
         return moving::refused(r.number, r.index);
     }
@@ -64,7 +64,7 @@ pub fn release(image: &mut [u8], sheet: &[u8], base: u64, owners: &[u8], owner: 
     if v.number != 0 {
         return v;
     }
-    sheet::set_by(image, r, sheet);
+    bodies::set_by(image, r, sheet);
     moving::move_to(image, r, base);
     v
 }

@@ -1,5 +1,5 @@
--- The small image, released by the owner of region bytes 40 and 41 with the sample sheet to another base: its base word, its patch word and
--- these two bytes are others, and no other byte is; by the other owner it is refused. The image of header revision 6 takes the sheet that
+-- The small image, released by the owner of region bytes 40 and 41 with the sample sheet to another base: its base word, its patch word, its
+-- module's two words and these two bytes are others, and no other byte is; by the other owner it is refused. The image of header revision 6 takes the sheet that
 -- has its extended number, and refuses the sample, which has 0.
 -- Assumes nothing.
 use Prim.Native.Nat.{ℕ, _≤_}
@@ -21,7 +21,7 @@ use Rattle.image.specs.Small.{small, later, settingBytes, small-reads, six-read
 use Rattle.moving.specs.declared.Moved.{Moved}
 use Rattle.moving.specs.Moves.{difference, movedTo}
 use Rattle.moving.specs.Moving.{refusedMove, acceptedMove, moveTo}
-use Rattle.moving.specs.Small.{small-move}
+use Rattle.moving.specs.Small.{small-move, small-moves}
 use Rattle.sheet.specs.Sheet.{bodyAt}
 use Rattle.sheet.specs.Set.{copied, written, setBy, setImage}
 use Rattle.sheet.specs.Small.{sample, sampleFor, small-set}
@@ -51,11 +51,12 @@ goes = ap (λ (m : Moved). m .number) small-release
 
 -- and the image afterwards
 pub small-released : releasedImage maker sample 0x00100000 two 1 ≡ small 0x00100000 0x00100040 (settingBytes 1 0)
-unfolding small number zeros digit le test placeOf place moveTo movedTo difference add put twoSteps setImage
+unfolding twoSteps setImage
 small-released =
     release-changed maker sample 0x00100000 two 1 goes
     ∙ ap (λ (l : List ℕ). moveTo l (reading maker) 0x00100000) small-set
     ∙ ap (λ (r : Reading). moveTo (small 0xFFF80000 0xFFF80040 (settingBytes 1 0)) r 0x00100000) small-reads
+    ∙ small-moves 1 0
 
 -- the same sheet by the other owner is refused with 24
 pub small-other : releasing maker sample 0x00100000 two 2 ≡ refusedMove 24 0

@@ -13,21 +13,22 @@ use Rattle.words.specs.Le.{le, Bytes}
 use Rattle.words.specs.LeLaws.{le-cong}
 use Rattle.header.specs.Base.{legalBase}
 use Rattle.image.specs.declared.Reading.{Reading}
+use Rattle.image.specs.Words.{met}
 use Rattle.image.specs.Reading.{rebased, reading}
 use Rattle.image.specs.Guarantee.{guaranteed}
 use Rattle.image.specs.Numbers.{Numbered, after-every, numbered-own, own-number, own-zero}
 use Rattle.moving.specs.declared.Moved.{Moved}
 use Rattle.moving.specs.Moves.{difference, Beside}
-use Rattle.moving.specs.Moving.{wordsAt, wordsOf, moveTo, refusedMove, movedImage}
-use Rattle.moving.specs.MovingLaws.{beside}
+use Rattle.moving.specs.Moving.{movedWords, moveTo, refusedMove, movedImage}
+use Rattle.image.specs.WordsLaws.{beside}
 use Rattle.sheet.specs.Sheet.{count, offset, size, bodyAt}
 use Rattle.sheet.specs.Set.{fieldsOf, setBy, setImage, Fits}
 use Rattle.sheet.specs.SetLaws.{body-within}
 use Rattle.lookup.specs.Setting.{settingFits, settingPart}
 use Rattle.lookup.specs.SettingLaws.{setting-accepted}
 use Rattle.steps.specs.MoveStep.{unmoved-byte, moved-number, length-after, bytes-after, moved-reads, moved-on, moved-nowhere}
-use Rattle.steps.specs.SetStep.{Within, unset-byte, set-byte, length-after-set, bytes-after-set, set-reads, read-after, set-empty, fits-alike}
-use Rattle.steps.specs.TwoSteps.{fits-moved, commute, word-kept, words-stay}
+use Rattle.steps.specs.SetStep.{Within, unset-byte, set-byte, length-after-set, bytes-after-set, set-reads, words-stay, read-after, set-empty, fits-alike}
+use Rattle.steps.specs.TwoSteps.{fits-moved, commute, word-kept}
 use Rattle.release.specs.Release.{nameRules, releaseRules, releasing, twoSteps, releasedImage}
 use Rattle.release.specs.ReleaseLaws.{Releasable, release-changed, release-shows, release-goes}
 
@@ -81,29 +82,30 @@ module _ (xs s : List ℕ) (base : ℕ) (o : List ℕ) (owner : ℕ) (ok : relea
         let c = ap (λ (r : Reading). r .c) (moved-reads xs bx (released-fits .read) base released-legal) in
         rw moved-then-set (rw c at (set-byte (movedImage xs base) s (fits-moved xs s base bx released-fits released-legal) i j hi hj))
 
-    -- each word of the move holds old plus difference modulo 2^32
-    pub released-word : (j : ℕ) → j < suc (reading xs .n)
-        → le 4 (releasedImage xs s base o owner) (wordsAt xs (reading xs) j) ≡
-        (le 4 xs (wordsAt xs (reading xs) j) + difference (reading xs .base) base 4) % 2 ^ 32
+    -- each word of the move holds old plus difference modulo its width
+    pub released-word : (j : ℕ) → j < movedWords xs .count
+        → le (movedWords xs .width j) (releasedImage xs s base o owner) (movedWords xs .at j)
+        ≡ (le (movedWords xs .width j) xs (movedWords xs .at j) + difference (reading xs .base) base (movedWords xs .width j))
+        % 256 ^ movedWords xs .width j
     released-word j h =
         let ys = setImage xs s in
-        let w = wordsAt xs (reading xs) j in
-        let d = difference (reading xs .base) base 4 in
-        let there : le 4 (movedImage ys base) w ≡ (le 4 ys w + d) % 2 ^ 32 =
-        rw (set-reads xs s released-fits, words-stay xs s released-fits j h) at
-        (moved-number ys bytes-set (read-after xs s released-fits) base legal-set j (rw (set-reads xs s released-fits) h)) in
+        let w = movedWords xs .at j in
+        let m = movedWords xs .width j in
+        let d = difference (reading xs .base) base m in
+        let same : met ys (reading ys) ≡ met xs (reading xs) = words-stay xs s released-fits in
+        let there : le m (movedImage ys base) w ≡ (le m ys w + d) % 256 ^ m =
+        rw (same, set-reads xs s released-fits) at
+        (moved-number ys bytes-set (read-after xs s released-fits) base legal-set j (rw same h)) in
         rw set-then-moved there
-        ∙ ap (λ (v : ℕ). (v + d) % 2 ^ 32) (le-cong 4 ys xs w (word-kept xs xs s (released-fits .read) released-fits refl refl j h))
+        ∙ ap (λ (v : ℕ). (v + d) % 256 ^ m) (le-cong m ys xs w (word-kept xs xs s (released-fits .read) released-fits refl refl j h))
 
     -- any other byte is what it was
-    pub released-other : (k : ℕ) → Beside (fieldsOf (reading xs) s) (count s) k → Beside (wordsOf xs (reading xs)) (suc (reading xs .n)) k
+    pub released-other : (k : ℕ) → Beside (fieldsOf (reading xs) s) (count s) k → Beside (movedWords xs) (movedWords xs .count) k
         → getD (releasedImage xs s base o owner) k 0 ≡ getD xs k 0
     released-other k fields words =
         let ys = setImage xs s in
-        let r = reading xs in
-        let words′ : Beside (wordsOf ys r) (suc (r .n)) k = λ j h. rw (words-stay xs s released-fits j h) (words j h) in
-        rw set-then-moved (unmoved-byte ys bytes-set (read-after xs s released-fits) base legal-set k
-        (rw (set-reads xs s released-fits) words′))
+        let same : met ys (reading ys) ≡ met xs (reading xs) = words-stay xs s released-fits in
+        rw set-then-moved (unmoved-byte ys bytes-set (read-after xs s released-fits) base legal-set k (rw same words))
         ∙ unset-byte xs s released-fits k fields
 
     -- ---- the sheet alone, the move alone
@@ -143,11 +145,11 @@ module _ (xs s : List ℕ) (base : ℕ) (o : List ℕ) (owner : ℕ) (ok : relea
 
 -- no byte is both an entry's and a word's
 pub entry-beside : (xs s : List ℕ) → Fits xs s → (k : ℕ) → Within (reading xs) s k
-    → Beside (wordsOf xs (reading xs)) (suc (reading xs .n)) k
+    → Beside (movedWords xs) (movedWords xs .count) k
 entry-beside xs s fits k (i, h, low, high) =
     let g = guaranteed xs (fits .read) in
     let f = fits .sound .fields i h in
-    beside xs (reading xs) g (suc (reading xs .n)) k (omega arith) (inr (omega (arith, g))) (inr (omega arith, omega arith))
+    beside xs (reading xs) g (movedWords xs .count) k (omega arith) (inr (omega (arith, g))) (inr (omega arith, omega arith))
 
 -- ---- there and back
 

@@ -22,7 +22,7 @@ use Rattle.image.specs.declared.Reading.{Reading}
 use Rattle.image.specs.Reading.{rebased, refusal, reading}
 use Rattle.image.specs.Guarantee.{guaranteed}
 use Rattle.moving.specs.Moves.{difference}
-use Rattle.moving.specs.Moving.{wordsAt, refusedMove, acceptedMove}
+use Rattle.moving.specs.Moving.{movedWords, refusedMove, acceptedMove}
 use Rattle.sheet.specs.Small.{sample}
 use Rattle.sheet.specs.Sheet.{Sound, sheetIdentity, count, offset, size, bodyAt, contentsFit, bodiesFit, sheetFits, sameIdentity, fieldFits}
 use Rattle.owners.specs.Owners.{ownersFit, fieldsOwned}
@@ -41,8 +41,8 @@ pub data Row : Type 0 where
   illegal : (size base : ℕ) → Row
   -- an image at old that is released to new moves by this difference, and answers that it goes down by this much
   moves : (old new difference down : ℕ) → Row
-  -- such a release makes of this word that one
-  makes : (old new word moved : ℕ) → Row
+  -- such a release makes of this word of k bytes that one
+  makes : (k old new word moved : ℕ) → Row
   -- for an image of the sheet's identity and revision with at least so many region bytes, the sheet by this owner of the list sets two
   -- region bytes to these
   sets : (sheet list : List ℕ) (owner z at first second : ℕ) → Row
@@ -75,7 +75,7 @@ check (refuses size entry number) = placeOf size entry .number ≡? number and p
 check (legal size base) = legalBase size base
 check (illegal size base) = deny (legalBase size base)
 check (moves old new by down) = difference old new 4 ≡? by and sign (distanceOf old new) ≡? 1 and natAbs (distanceOf old new) ≡? down
-check (makes old new word moved) = (word + difference old new 4) % 2 ^ 32 ≡? moved
+check (makes k old new word moved) = (word + difference old new k) % 256 ^ k ≡? moved
 check (sets s l w z at first second) =
     contentsFit s
     and bodiesFit s
@@ -101,10 +101,10 @@ Claim (moves old new by down) =
     (difference old new 4 ≡ by)
     × ((xs s o : List ℕ) (owner : ℕ) → Releasable xs s new o owner → reading xs .base ≡ old
     → releasing xs s new o owner ≡ record { number = 0; index = 0; distance = negsuc (down - 1) })
-Claim (makes old new word moved) =
+Claim (makes k old new word moved) =
     (xs s o : List ℕ) (owner : ℕ) → Bytes xs → Bytes s → Releasable xs s new o owner → reading xs .base ≡ old
-    → (j : ℕ) → j < suc (reading xs .n) → le 4 xs (wordsAt xs (reading xs) j) ≡ word
-    → le 4 (releasedImage xs s new o owner) (wordsAt xs (reading xs) j) ≡ moved
+    → (j : ℕ) → j < movedWords xs .count → movedWords xs .width j ≡ k → le k xs (movedWords xs .at j) ≡ word
+    → le k (releasedImage xs s new o owner) (movedWords xs .at j) ≡ moved
 Claim (sets s l w z at first second) =
     (xs : List ℕ) (base : ℕ) → Bytes xs → reading xs .number ≡ 0 → Holds (sameIdentity (sheetIdentity s) (reading xs .identity))
     → z ≤ reading xs .z → Holds (legalBase (length xs) base)
@@ -148,10 +148,10 @@ right (moves old new by down) (by-is, (low, far)) = (
       ∙ ap (λ (z : ℤ). record { number = 0; index = 0; distance = z })
       (below (distanceOf old new) low ∙ ap (λ (k : ℕ). negsuc (k - 1)) far),
 )
-right (makes old new word moved) h = λ xs s o owner bx bs goes base j n is.
-    released-word xs s new o owner (release-goes xs s new o owner goes) bx bs j n
-    ∙ ap (λ (v : ℕ). (v + difference (reading xs .base) new 4) % 2 ^ 32) is
-    ∙ ap (λ (o : ℕ). (word + difference o new 4) % 2 ^ 32) base
+right (makes k old new word moved) h = λ xs s o owner bx bs goes base j n width is.
+    rw width at (released-word xs s new o owner (release-goes xs s new o owner goes) bx bs j n)
+    ∙ ap (λ (v : ℕ). (v + difference (reading xs .base) new k) % 256 ^ k) is
+    ∙ ap (λ (o : ℕ). (word + difference o new k) % 256 ^ k) base
     ∙ h
 right (sets s l w z at first second) (contents, (bodies, (fields, (one, (place, (two, (a, (b, (bytes, (good, own)))))))))) =
     λ xs base bx ok names room legal.
@@ -256,8 +256,12 @@ rows =
     -- its size alone decides that one; of this the twelve bits alone
     ∷ illegal 524288 0x00100800
     ∷ moves 0xFFF80000 0x00100000 0x00180000 4293394432
-    ∷ makes 0xFFF80000 0x00100000 0xFFF80040 0x00100040
-    ∷ makes 0xFFF80000 0x00100000 0xFFFFFFFC 0x0017FFFC
+    ∷ makes 4 0xFFF80000 0x00100000 0xFFF80040 0x00100040
+    ∷ makes 4 0xFFF80000 0x00100000 0xFFFFFFFC 0x0017FFFC
+    -- a word of 8 bytes takes the move with its sign
+    ∷ makes 8 0xFFF80000 0x00100000 0x00000000FFFFFFFC 0x000000000017FFFC
+    ∷ makes 8 0xFFF80000 0x00100000 0x0000000000000040 0xFFFFFFFF00180040
+    ∷ makes 8 0x00100000 0xFFF80000 0xFFFFFFFF00180040 0x0000000000000040
     ∷ sets sheet owners 1 42 40 0x01 0x00
     ∷ foreign sheet owners 2 42
     ∷ unsound (take 25 sheet)

@@ -1,14 +1,11 @@
 // Document 01, "The release sheet".
 use image::Identity;
-use image::Reading;
 ghost use mathlib.Core.Path.{_≡_};
 ghost use Prim.Native.Nat.{_+_, _-_, _*_, _≤_, _<_};
 ghost use lib.ListN.{length};
 ghost use Rattle.facts.specs.Fact.{Holds, Tells, every};
-ghost use Rattle.image.specs.Guarantee.{Guaranteed};
-ghost use Rattle.sheet.specs.Sheet.{Sound, sheetIdentity, count, offset, size, position, entryAt, follows, contentsFit, bodiesFit, sheetFits, sameIdentity, inField, fieldFits};
+ghost use Rattle.sheet.specs.Sheet.{sheetIdentity, count, offset, size, position, entryAt, follows, contentsFit, bodiesFit, sheetFits, sameIdentity, inField, fieldFits};
 ghost use Rattle.sheet.specs.ReadSheet.{ReadsSheet};
-ghost use Rattle.sheet.specs.Set.{copied, written, setBy};
 
 // An entry of a sheet.
 pub struct Entry {
@@ -197,40 +194,4 @@ pub fn read_sheet(sheet: &[u8]) -> SheetReading
         count: words::le16(sheet, 12),
         identity: identity_of(sheet),
     }
-}
-
-// Copies n bytes of the sheet from `from` on to `at`.
-fn copy_body(part: &mut [u8], at: usize, sheet: &[u8], from: usize, n: usize)
-    requires { ⌜ (at + n ≤ length (now part)) × (from + n ≤ length (now sheet)) ⌝ }
-    ensures { λ _. ⌜ now (part .exit) ≡ copied (now (part .entry)) at (now (sheet .entry)) from n ⌝ }
-{
-    let mut k = 0;
-    while k < n {
-        part[at + k] = sheet[from + k];
-        k += 1;
-    }
-}
-
-// Sets the bodies of all entries in the settings part, which starts at 32 in the region; it sees no other byte of the image.
-fn write_sheet(part: &mut [u8], sheet: &[u8])
-    requires { ⌜ Sound (now sheet) (length (now part) + 32) ⌝ }
-    ensures { λ _. ⌜ now (part .exit) ≡ written (now (part .entry)) (now (sheet .entry)) (count (now (sheet .entry))) ⌝ }
-{
-    let m = words::le16(sheet, 12);
-    let mut i = 0;
-    while i < m {
-        let w = entry_at(sheet, i);
-        copy_body(part, w.offset - 32, sheet, w.position, w.size);
-        i += 1;
-    }
-}
-
-// Sets the bytes of a sheet that was judged.
-pub fn set_by(image: &mut [u8], r: Reading, sheet: &[u8])
-    requires { ⌜ Guaranteed (now image) r × Sound (now sheet) (r .z) ⌝ }
-    ensures { λ _. ⌜ now (image .exit) ≡ setBy (now (image .entry)) r (now (sheet .entry)) ⌝ }
-{
-    let from = r.c + 32;
-    let end = r.c + r.z;
-    write_sheet(&mut image[from..end], sheet);
 }

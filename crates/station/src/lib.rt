@@ -1,6 +1,5 @@
 // Request #108: the bench's station. The call-order state is a record lent to be changed in place; each call reads it, runs the step of
 // `order` and stores the next state. What is lent is proved by a walk of the code, by hand.
-ghost use Rattle.order.specs.Order.{tempRamInit, memoryInit, tempRamExit, siliconInit, notifyPhase, none};
 ghost use Rattle.station.specs.Station.{Calls, Resets, CallsFrom, ResetsFrom};
 
 // The call-order state. Anyone may make one up: a number that is no state of ours has nothing in order.
@@ -13,47 +12,6 @@ pub fn call(station: &mut Station, call: u64, notification: u64) -> u32
     ensures { λ r. ⌜ Calls call notification (now (station .entry)) r (now (station .exit)) ⌝ }
 {
     let r = order::step(station.state, call, notification);
-    station.state = r.state;
-    r.number
-}
-
-// NotifyPhase.
-pub fn notify(station: &mut Station, notification: u64) -> u32
-    ensures { λ r. ⌜ Calls notifyPhase notification (now (station .entry)) r (now (station .exit)) ⌝ }
-{
-    let r = order::step(station.state, order::NOTIFY_PHASE, notification);
-    station.state = r.state;
-    r.number
-}
-
-pub fn temp_ram_init(station: &mut Station) -> u32
-    ensures { λ r. ⌜ Calls tempRamInit none (now (station .entry)) r (now (station .exit)) ⌝ }
-{
-    let r = order::step(station.state, order::TEMP_RAM_INIT, order::NONE);
-    station.state = r.state;
-    r.number
-}
-
-pub fn memory_init(station: &mut Station) -> u32
-    ensures { λ r. ⌜ Calls memoryInit none (now (station .entry)) r (now (station .exit)) ⌝ }
-{
-    let r = order::step(station.state, order::MEMORY_INIT, order::NONE);
-    station.state = r.state;
-    r.number
-}
-
-pub fn temp_ram_exit(station: &mut Station) -> u32
-    ensures { λ r. ⌜ Calls tempRamExit none (now (station .entry)) r (now (station .exit)) ⌝ }
-{
-    let r = order::step(station.state, order::TEMP_RAM_EXIT, order::NONE);
-    station.state = r.state;
-    r.number
-}
-
-pub fn silicon_init(station: &mut Station) -> u32
-    ensures { λ r. ⌜ Calls siliconInit none (now (station .entry)) r (now (station .exit)) ⌝ }
-{
-    let r = order::step(station.state, order::SILICON_INIT, order::NONE);
     station.state = r.state;
     r.number
 }

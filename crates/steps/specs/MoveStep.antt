@@ -3,6 +3,7 @@
 -- Assumes nothing.
 use mathlib.Core.Path.{_≡_, refl, sym, ap, _∙_}
 use mathlib.Core.List.{List}
+use mathlib.Core.Logic.{_⊎_, inl, inr}
 use Prim.Native.Nat.{ℕ, zero, suc, _+_, _%_, _^_, _≤_, _<_}
 use native.Mathlib.Omega.{arith}
 use lib.IntN.{ℤ}
@@ -10,65 +11,86 @@ use lib.ListN.{length, getD}
 use Rattle.facts.specs.Fact.{Holds}
 use Rattle.words.specs.Le.{le, Bytes}
 use Rattle.header.specs.Base.{legalBase}
+use Rattle.items.specs.declared.Item.{Item}
+use Rattle.items.specs.Items.{wordsIn, listed}
 use Rattle.image.specs.declared.Reading.{Reading}
 use Rattle.image.specs.Reading.{rebased, reading}
 use Rattle.image.specs.Guarantee.{Guaranteed, guaranteed}
-use Rattle.image.specs.FrameBelow.{frame-below}
-use Rattle.moving.specs.Moves.{difference, movedTo, Beside}
-use Rattle.moving.specs.MovesLaws.{length-moved, bytes-moved, moved-beside, moved-cong, moved-word, moved-twice, moved-none, difference-sum, difference-none}
-use Rattle.moving.specs.Moving.{wordsAt, wordsOf, moveTo, movedImage, Magnitude}
-use Rattle.moving.specs.MovingLaws.{spread, words-kept, moved-alike}
+use Rattle.image.specs.Words.{met, wordsOf}
+use Rattle.image.specs.WordsLaws.{spread, widths, base-word}
+use Rattle.image.specs.FrameBut.{words-but, frame-but}
+use Rattle.moving.specs.Moves.{difference, moved, Beside}
+use Rattle.moving.specs.MovesLaws.{length-moved, bytes-moved, moved-beside, moved-word, moved-twice, moved-none, difference-sum, difference-none}
+use Rattle.moving.specs.Moving.{movedWords, moveTo, movedImage, Magnitude}
+use Rattle.moving.specs.MovingLaws.{moved-alike}
 
 -- any two answers that the promise of `magnitude` admits are the same
 pub one-magnitude : (z : ℤ) (r s : ℕ) → Magnitude z r → Magnitude z s → r ≡ s
 one-magnitude z r s a b = a ∙ sym b
 
 -- the words stand where they stood whatever the base
-words-rebased : (xs : List ℕ) (r : Reading) (w j : ℕ) → wordsAt xs (rebased r w) j ≡ wordsAt xs r j
-words-rebased xs r w zero = refl
-words-rebased xs r w (suc j) = refl
+words-rebased : (xs : List ℕ) (r : Reading) (w : ℕ) → met xs (rebased r w) ≡ met xs r
+unfolding met
+words-rebased xs r w = refl
+
+-- a base is a number of each word's width
+wide : (n w : ℕ) → n < 256 ^ 4 → (w ≡ 4) ⊎ (w ≡ 8) → n < 256 ^ w
+wide n w h (inl e) = rw e h
+wide n w h (inr e) = rw e (omega arith)
 
 module _ (xs : List ℕ) (bytes : Bytes xs) (ok : reading xs .number ≡ 0) where
   old-small : reading xs .base < 256 ^ 4
   old-small = omega (arith, guaranteed xs ok)
 
   module _ (base : ℕ) (legal : Holds (legalBase (length xs) base)) where
-    -- a byte outside the base word and the patch words keeps its value
-    pub unmoved-byte : (k : ℕ) → Beside (wordsOf xs (reading xs)) (suc (reading xs .n)) k → getD (movedImage xs base) k 0 ≡ getD xs k 0
+    -- a byte outside the words of a move keeps its value
+    pub unmoved-byte : (k : ℕ) → Beside (movedWords xs) (movedWords xs .count) k → getD (movedImage xs base) k 0 ≡ getD xs k 0
     unfolding moveTo movedImage
-    unmoved-byte k out =
-        moved-beside xs (wordsOf xs (reading xs)) (difference (reading xs .base) base) (suc (reading xs .n)) k out
+    unmoved-byte k out = moved-beside xs (movedWords xs) (difference (reading xs .base) base) (movedWords xs .count) k out
 
-    -- each of these words holds old plus difference modulo 2^32
-    pub moved-number : (j : ℕ) → j < suc (reading xs .n)
-        → le 4 (movedImage xs base) (wordsAt xs (reading xs) j) ≡
-        (le 4 xs (wordsAt xs (reading xs) j) + difference (reading xs .base) base 4) % 2 ^ 32
+    -- each of these words holds old plus difference modulo its width
+    pub moved-number : (j : ℕ) → j < movedWords xs .count
+        → le (movedWords xs .width j) (movedImage xs base) (movedWords xs .at j)
+        ≡ (le (movedWords xs .width j) xs (movedWords xs .at j) + difference (reading xs .base) base (movedWords xs .width j))
+        % 256 ^ movedWords xs .width j
     unfolding moveTo movedImage
     moved-number j h =
-        moved-word xs (wordsOf xs (reading xs)) (spread xs (reading xs) (guaranteed xs ok)) (difference (reading xs .base) base)
-        (suc (reading xs .n)) j (omega arith) h
+        moved-word xs (movedWords xs) (spread xs (reading xs) (guaranteed xs ok)) (difference (reading xs .base) base)
+        (movedWords xs .count) j (omega arith) h
 
     -- the base word then holds the new base
     new-base : le 4 (movedImage xs base) (reading xs .H + 28) ≡ base
     unfolding difference
-    new-base = omega (arith, moved-number 0 (omega arith), guaranteed xs ok .base-is, guaranteed xs ok, old-small)
+    new-base =
+        let (at, width, some) = base-word xs (reading xs) (guaranteed xs ok) in
+        let number : le 4 (movedImage xs base) (reading xs .H + 28)
+        ≡ (le 4 xs (reading xs .H + 28) + difference (reading xs .base) base 4) % 256 ^ 4 = rw (at, width) at (moved-number 0 some) in
+        omega (arith, number, guaranteed xs ok .base-is, guaranteed xs ok, old-small)
 
     pub length-after : length (movedImage xs base) ≡ length xs
     unfolding moveTo movedImage
-    length-after = length-moved xs (wordsOf xs (reading xs)) (difference (reading xs .base) base) (suc (reading xs .n))
+    length-after = length-moved xs (movedWords xs) (difference (reading xs .base) base) (movedWords xs .count)
 
     pub bytes-after : Bytes (movedImage xs base)
     unfolding moveTo movedImage
-    bytes-after = bytes-moved xs (wordsOf xs (reading xs)) (difference (reading xs .base) base) (suc (reading xs .n)) bytes
+    bytes-after = bytes-moved xs (movedWords xs) (difference (reading xs .base) base) (movedWords xs .count) bytes
 
     -- the moved image reads, with the new base and all else the same
     pub moved-reads : reading (movedImage xs base) ≡ rebased (reading xs) base
     unfolding moveTo movedImage
     moved-reads =
-        frame-below xs (movedImage xs base) ok
+        frame-but xs (movedImage xs base) ok
         (moved-alike xs (reading xs) (guaranteed xs ok) (difference (reading xs .base) base))
         (rw (new-base, length-after) legal)
         ∙ ap (λ (w : ℕ). rebased (reading xs) w) new-base
+
+    -- and has the same words
+    pub moved-words : met (movedImage xs base) (reading xs) ≡ met xs (reading xs)
+    unfolding moveTo movedImage
+    moved-words =
+        let g = guaranteed xs ok in
+        sym
+        (words-but xs (movedImage xs base) (reading xs) g (moved-alike xs (reading xs) g (difference (reading xs .base) base)))
 
     -- a move to another base changes the image
     pub moved-changes : (base ≡ reading xs .base → ⊥) → movedImage xs base ≡ xs → ⊥
@@ -80,24 +102,24 @@ module _ (xs : List ℕ) (bytes : Bytes xs) (ok : reading xs .number ≡ 0) wher
     moved-on next fits =
         let r = reading xs in
         let ys = movedImage xs base in
-        let ws = wordsOf xs r in
-        let n = suc (r .n) in
-        let small : base < 256 ^ 4 = omega (arith, guaranteed xs ok, legal) in
+        let ws = movedWords xs in
+        let g = guaranteed xs ok in
+        let small : base < 256 ^ 4 = omega (arith, g, legal) in
+        let same : met ys (rebased r base) ≡ met xs r = words-rebased ys r base ∙ moved-words in
         ap (λ (s : Reading). moveTo ys s next) moved-reads
-        ∙ moved-cong ys (wordsOf ys (rebased r base)) ws (difference base next) (difference base next) n
-        (λ j h. words-rebased ys r base j ∙ words-kept xs r (guaranteed xs ok) (difference (r .base) base) n j (omega arith) h)
-        (λ j h. refl) (λ j h. refl)
-        ∙ moved-twice xs ws (difference (r .base) base) (difference base next) (difference (r .base) next)
-        (spread xs r (guaranteed xs ok)) bytes
-        (λ j h. difference-sum 4 (r .base) base next old-small small)
+        ∙ ap (λ (l : List Item). moved ys (listed (wordsIn l)) (difference base next)) same
+        ∙ moved-twice xs ws (difference (r .base) base) (difference base next) (difference (r .base) next) (spread xs r g) bytes
+        (λ j h. difference-sum (ws .width j) (r .base) base next (wide (r .base) (ws .width j) old-small (widths xs r g j h))
+        (wide base (ws .width j) small (widths xs r g j h)))
 
   -- moving to the present base changes nothing
   pub moved-nowhere : movedImage xs (reading xs .base) ≡ xs
   unfolding moveTo movedImage
   moved-nowhere =
       let r = reading xs in
-      moved-none xs (wordsOf xs r) (difference (r .base) (r .base)) (spread xs r (guaranteed xs ok)) bytes
-      (λ j h. difference-none 4 (r .base) old-small)
+      let g = guaranteed xs ok in
+      moved-none xs (movedWords xs) (difference (r .base) (r .base)) (spread xs r g) bytes
+      (λ j h. difference-none (movedWords xs .width j) (r .base) (wide (r .base) (movedWords xs .width j) old-small (widths xs r g j h)))
 
   -- moving there and back restores the image
   pub there-and-back : (base : ℕ) → Holds (legalBase (length xs) base) → movedImage (movedImage xs base) (reading xs .base) ≡ xs

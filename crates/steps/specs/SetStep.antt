@@ -13,9 +13,11 @@ use Rattle.words.specs.LeLaws.{le-cong}
 use Rattle.image.specs.declared.Reading.{Reading}
 use Rattle.image.specs.Reading.{rebased, reading}
 use Rattle.image.specs.Guarantee.{guaranteed}
-use Rattle.image.specs.FrameBelow.{frame-below}
+use Rattle.image.specs.Words.{met}
+use Rattle.image.specs.FrameBut.{AlikeBut, frame-but}
 use Rattle.moving.specs.Moves.{Beside}
 use Rattle.moving.specs.MovesLaws.{find}
+use Rattle.moving.specs.MovingLaws.{same-words}
 use Rattle.sheet.specs.Sheet.{count, offset, size, bodyAt}
 use Rattle.sheet.specs.Set.{fieldsOf, setImage, Fits}
 use Rattle.sheet.specs.SetLaws.{length-set-by, set-outside, set-beside, set-in}
@@ -69,19 +71,19 @@ module _ (xs s : List ℕ) (ok : Fits xs s) where
       (record { same = λ j h. kept-outside (reading xs .H + 28 + j) (inl (omega (arith, g))) })
       ∙ sym (g .base-is)
 
+  -- nothing but settings is another
+  pub set-alike : AlikeBut xs (setImage xs s) (reading xs)
+  set-alike = record { long = sym length-after-set; same = λ k out far. sym (kept-outside k far) }
+
   -- the image afterwards reads as it did
   pub set-reads : reading (setImage xs s) ≡ reading xs
   set-reads =
-      let g = guaranteed xs (ok .read) in
-      frame-below xs (setImage xs s) (ok .read)
-      (record {
-        long = sym length-after-set;
-        below = λ k h. sym (kept-outside k (inl (omega (arith, g))));
-        above = λ k h l. sym (kept-outside k (inl (omega (arith, g))));
-        marks = record { same = λ j h. sym (kept-outside (reading xs .c + 6 + j) (inl (omega arith))) };
-      })
-      (rw (base-kept, length-after-set) (g .legal))
+      frame-but xs (setImage xs s) (ok .read) set-alike (rw (base-kept, length-after-set) (guaranteed xs (ok .read) .legal))
       ∙ ap (λ (w : ℕ). rebased (reading xs) w) base-kept
+
+  -- and has the same words
+  pub words-stay : met (setImage xs s) (reading (setImage xs s)) ≡ met xs (reading xs)
+  words-stay = same-words xs (setImage xs s) (ok .read) set-alike set-reads
 
   pub read-after : reading (setImage xs s) .number ≡ 0
   read-after = ap (λ (r : Reading). r .number) set-reads ∙ ok .read

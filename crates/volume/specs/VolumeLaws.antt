@@ -16,7 +16,7 @@ module _ (a b : List ℕ) where
   sum-words zero k h same = refl
   sum-words (suc n) k h same = rw (sum-words n k (omega arith) same, le-in same 2 (2 * n) (omega arith) (omega arith))
 
-  sum-bytes : (at n k : ℕ) → n ≤ k → Alike a b at k → sumBytes a at n ≡ sumBytes b at n
+  pub sum-bytes : (at n k : ℕ) → n ≤ k → Alike a b at k → sumBytes a at n ≡ sumBytes b at n
   unfolding sumBytes
   sum-bytes at zero k h same = refl
   sum-bytes at (suc n) k h same = rw (sum-bytes at n k (omega arith) same, le-in same 1 (at + n) (omega arith) (omega arith))

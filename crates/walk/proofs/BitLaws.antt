@@ -3,7 +3,7 @@ use mathlib.Core.Path.{_≡_, _∙_}
 use Prim.Native.Nat.{ℕ, zero, suc, _/_, _%_, _^_, _<_}
 use native.Mathlib.Omega.{arith}
 use native.Mathlib.Nat.{pow-suc}
-use lib.Bits.{bitOr, bitXor, xor-step, differ, and-le-l, and-le-r, or-add-and, xor-add-and}
+use lib.Bits.{bitXor, xor-step, differ}
 use lib.Count.{ones, ones-step}
 use Rattle.walk.specs.Differences.{flips}
 use Rattle.walk.specs.FlipLaws.{differ-lt}
@@ -19,13 +19,3 @@ ones-xor (suc j) x y hx hy =
     let low : bitXor x y % 2 ≡ differ (x % 2) (y % 2) = omega (arith, xor-step x y) in
     let high : bitXor x y / 2 ≡ bitXor (x / 2) (y / 2) = omega (arith, xor-step x y) in
     ones-step (bitXor x y) ∙ rw (low, high, ones-xor j (x / 2) (y / 2) (omega (arith, pow-suc 2 j)) (omega (arith, pow-suc 2 j)))
-
--- no bit of x ^ y is set where the two are the same, and only there
-pub xor-none : (x y : ℕ) → bitXor x y ≡ 0 → x ≡ y
-xor-none x y e = omega (arith, xor-add-and x y, and-le-l x y, and-le-r x y)
-
--- no bit of x | y is set where neither has one
-pub or-none : (x y : ℕ) → bitOr x y ≡ 0 → (x ≡ 0) × (y ≡ 0)
-or-none x y e =
-    let s = or-add-and x y in
-    (omega (arith, s, and-le-r x y), omega (arith, s, and-le-l x y))

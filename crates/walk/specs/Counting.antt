@@ -9,8 +9,8 @@ use Rattle.facts.specs.Fact.{test}
 use Rattle.image.specs.declared.Reading.{Reading}
 use Rattle.walk.specs.declared.Tally.{Tally}
 use Rattle.walk.specs.Differences.{differences, setting, settings, strays, bits, flips}
-use Rattle.walk.specs.declared.Ahead.{Ahead}
-use Rattle.walk.specs.Ahead.{Known}
+use Rattle.queue.specs.declared.Ahead.{Ahead}
+use Rattle.queue.specs.Ahead.{Known}
 use Rattle.walk.specs.DifferenceLaws.{rest}
 
 -- t with the difference at k counted
@@ -39,6 +39,12 @@ pub record Counted (ref ys : List ℕ) (r : Reading) (t u : Tally) : Type 0 wher
   pub settings-kept : u .settings + settings r (rest ref ys (u .at)) ≡ t .settings + settings r (rest ref ys (t .at))
   pub strays-kept : u .strays + strays r (rest ref ys (u .at)) ≡ t .strays + strays r (rest ref ys (t .at))
   pub bits-kept : u .bits + bits ref ys r (rest ref ys (u .at)) ≡ t .bits + bits ref ys r (rest ref ys (t .at))
+
+-- counted and left together are all
+pub record Left (ref ys : List ℕ) (r : Reading) (t : Tally) : Type 0 where
+  pub settings-left : t .settings + settings r (rest ref ys (t .at)) ≡ settings r (differences ref ys 0 (length ys))
+  pub strays-left : t .strays + strays r (rest ref ys (t .at)) ≡ strays r (differences ref ys 0 (length ys))
+  pub bits-left : t .bits + bits ref ys r (rest ref ys (t .at)) ≡ bits ref ys r (differences ref ys 0 (length ys))
 
 -- all of them are counted
 pub record Totals (ref ys : List ℕ) (r : Reading) (t : Tally) : Type 0 where

@@ -12,43 +12,45 @@ use Rattle.facts.specs.Rules.{by-test}
 use Rattle.image.specs.declared.Reading.{Reading}
 use Rattle.image.specs.Guarantee.{Guaranteed}
 use Rattle.moving.specs.MovesLaws.{moved-beside}
-use Rattle.moving.specs.Moving.{wordsOf}
-use Rattle.moving.specs.MovingLaws.{beside}
-use Rattle.walk.specs.declared.Step.{Step}
+use Rattle.relocate.specs.Relocate.{shift}
+use Rattle.image.specs.Words.{wordsOf}
+use Rattle.image.specs.WordsLaws.{beside}
+use Rattle.stride.specs.declared.Step.{Step}
 use Rattle.walk.specs.declared.Tally.{Tally}
 use Rattle.walk.specs.Differences.{differences, setting, settings, strays, bits, countsOf}
 use Rattle.walk.specs.FlipLaws.{flips-most}
-use Rattle.walk.specs.Walk.{Stepped, by}
-use Rattle.walk.specs.declared.Ahead.{Ahead}
-use Rattle.walk.specs.Ahead.{Known}
-use Rattle.walk.specs.AheadLaws.{known-on}
+use Rattle.stride.specs.Stride.{Stepped, by}
+use Rattle.queue.specs.declared.Ahead.{Ahead}
+use Rattle.queue.specs.Ahead.{Known}
+use Rattle.queue.specs.AheadLaws.{known-on}
 use Rattle.walk.specs.DifferenceLaws.{rest, rest-over, rest-hit, rest-none}
-use Rattle.walk.specs.Counting.{countedAt, Standing, Counted, Totals}
+use Rattle.walk.specs.Counting.{countedAt, Standing, Counted, Left, Totals}
 
 -- no moved word has a byte in the region
-pub region-plain : (xs : List ℕ) (r : Reading) (d k : ℕ) → Guaranteed xs r → Holds (setting r k) → getD (by xs r d) k 0 ≡ getD xs k 0
-region-plain xs r d k g h =
-    moved-beside xs (wordsOf xs r) (λ w. d) (suc (r .n)) k
-    (beside xs r g (suc (r .n)) k (omega arith) (inr (omega (arith, g))) (inr (omega arith, omega arith)))
+pub region-plain : (xs : List ℕ) (r : Reading) (four eight k : ℕ) → Guaranteed xs r → Holds (setting r k)
+    → getD (by xs r four eight) k 0 ≡ getD xs k 0
+region-plain xs r four eight k g h =
+    moved-beside xs (wordsOf xs r) (shift four eight) (wordsOf xs r .count) k
+    (beside xs r g (wordsOf xs r .count) k (omega arith) (inr (omega (arith, g))) (inr (omega arith, omega arith)))
 
-module _ (xs ys : List ℕ) (r : Reading) (d : ℕ) (g : Guaranteed xs r) (long : length ys ≡ length xs) (t : Tally) (s : Step)
-    (stepped : Stepped (by xs r d) ys (t .at) s) (standing : Standing xs r t) (q : Ahead) (known : Known xs r (t .at) q) where
+module _ (xs ys : List ℕ) (r : Reading) (four eight : ℕ) (g : Guaranteed xs r) (long : length ys ≡ length xs) (t : Tally) (s : Step)
+    (stepped : Stepped (by xs r four eight) ys (t .at) s) (standing : Standing xs r t) (q : Ahead) (known : Known xs r (t .at) q) where
   -- what is left from t on is what is left from the step on
-  left : rest (by xs r d) ys (t .at) ≡ rest (by xs r d) ys (s .at)
-  left = rest-over (by xs r d) ys (t .at) (s .at) (stepped .onward) (stepped .most) (stepped .clear)
+  left : rest (by xs r four eight) ys (t .at) ≡ rest (by xs r four eight) ys (s .at)
+  left = rest-over (by xs r four eight) ys (t .at) (s .at) (stepped .onward) (stepped .most) (stepped .clear)
 
   pub step-hit : s .hit ≡ true
-      → Counted (by xs r d) ys r t (countedAt xs ys r t (s .at) q) × Standing xs r (countedAt xs ys r t (s .at) q)
+      → Counted (by xs r four eight) ys r t (countedAt xs ys r t (s .at) q) × Standing xs r (countedAt xs ys r t (s .at) q)
   unfolding settings strays bits
   step-hit hit =
       let k = s .at in
-      let ref = by xs r d in
+      let ref = by xs r four eight in
       let f = stepped .found hit in
       let e : rest ref ys (t .at) ≡ k ∷ rest ref ys (k + 1) = left ∙ rest-hit ref ys k (f .0) (f .1) in
       let known′ = known-on xs r (t .at) q known (k + 1) (omega (arith, stepped .onward)) in
       by-test (λ (u : Tally). Counted ref ys r t u × Standing xs r u) (setting r k) _ _
       (λ h.
-      let same = region-plain xs r d k g h in (
+      let same = region-plain xs r four eight k g h in (
         record {
           onward = omega (arith, stepped .onward);
           settings-kept = rw (e, passes (setting r k) h) (omega arith);
@@ -79,7 +81,7 @@ module _ (xs ys : List ℕ) (r : Reading) (d : ℕ) (g : Guaranteed xs r) (long 
 
   pub step-on : s .hit ≡ false
       → let u : Tally = record { at = s .at; ahead = q; settings = t .settings; strays = t .strays; bits = t .bits } in
-      Counted (by xs r d) ys r t u × Standing xs r u
+      Counted (by xs r four eight) ys r t u × Standing xs r u
   step-on pass = (
     record { onward = stepped .passed pass; settings-kept = rw left; strays-kept = rw left; bits-kept = rw left },
     record {
@@ -91,12 +93,6 @@ module _ (xs ys : List ℕ) (r : Reading) (d : ℕ) (g : Guaranteed xs r) (long 
   )
 
 -- ---- from the start of the walk to its end
-
--- counted and left together are all
-pub record Left (ref ys : List ℕ) (r : Reading) (t : Tally) : Type 0 where
-  pub settings-left : t .settings + settings r (rest ref ys (t .at)) ≡ settings r (differences ref ys 0 (length ys))
-  pub strays-left : t .strays + strays r (rest ref ys (t .at)) ≡ strays r (differences ref ys 0 (length ys))
-  pub bits-left : t .bits + bits ref ys r (rest ref ys (t .at)) ≡ bits ref ys r (differences ref ys 0 (length ys))
 
 module _ (ref ys : List ℕ) (r : Reading) where
   pub left-start : (q : Ahead) → Left ref ys r (record { at = 0; ahead = q; settings = 0; strays = 0; bits = 0 })

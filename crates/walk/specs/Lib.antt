@@ -1,9 +1,6 @@
 pub mod Differences
 pub mod FlipLaws
-pub mod Walk
-pub mod WalkLaws
-pub mod Ahead
-pub mod AheadLaws
 pub mod DifferenceLaws
 pub mod Counting
 pub mod CountingLaws
+pub mod Windows

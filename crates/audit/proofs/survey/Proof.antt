@@ -32,7 +32,8 @@ returns : tie.Need-returns
 returns c =
     let start = c .before .before .before .before .before in
     let a = start .args in
-    rw (audit-unread (a .vendor .now) (a .shipped .now) (a .room) (rw (start .pre) at (c .before .if1 .taken)), ← start .pre) (c .refused .ensures)
+    rw (audit-unread (a .vendor .now) (a .shipped .now) (a .room) (rw (start .pre) at (c .before .if1 .taken)), ← start .pre)
+    (c .refused .ensures)
 
 refused-requires-2 : tie.Need-refused-requires-2
 refused-requires-2 c κs = search needs
@@ -41,7 +42,8 @@ returns-2 : tie.Need-returns-2
 returns-2 c =
     let start = c .before .before .before .before .before .before in
     let a = start .args in
-    c .refused2 .ensures ∙ sym (audit-unpaired (a .vendor .now) (a .shipped .now) (a .room) (rw (start .pre) at (c .before .before .if1 .left)) (c .before .if2 .taken))
+    c .refused2 .ensures ∙ sym (audit-unpaired (a .vendor .now) (a .shipped .now) (a .room)
+    (rw (start .pre) at (c .before .before .if1 .left)) (c .before .if2 .taken))
 
 add-le32 : tie.Need-add-le32
 add-le32 c = omega (arith, header-in c)
@@ -59,18 +61,29 @@ returns-3 : tie.Need-returns-3
 returns-3 c =
     let start = c .before .before .before .before .before .before .before .before .before .before in
     let a = start .args in
-    c .refused3 .ensures ∙ sym (audit-illegal (a .vendor .now) (a .shipped .now) (a .room) (rw (start .pre) at (c .before .before .before .before .before .before .if1 .left)) (c .before .before .before .before .before .if2 .left) (rw (base (c .before .before .before)) at (refuted (c .before .before .legal .ensures) (c .before .if3 .taken))))
+    c .refused3 .ensures ∙ sym (audit-illegal (a .vendor .now) (a .shipped .now) (a .room)
+    (rw (start .pre) at (c .before .before .before .before .before .before .if1 .left))
+    (c .before .before .before .before .before .if2 .left) (rw
+    (base (c .before .before .before)) at (refuted (c .before .before .legal .ensures) (c .before .if3 .taken))))
 
 tell-requires : tie.Need-tell-requires
 tell-requires c κs =
-    let start = c .before .before .before .before .before .before .before .before .before in
-    (start .pre, rw (start .pre) at (c .before .before .before .before .before .if1 .left), c .before .before .before .before .if2 .left, base (c .before .before), granted (c .before .legal .ensures) (c .if3 .left))
+    let start = c .before .before .before .before .before .before .before .before .before in (
+      start .pre,
+      rw (start .pre) at (c .before .before .before .before .before .if1 .left),
+      c .before .before .before .before .if2 .left,
+      base (c .before .before),
+      granted (c .before .legal .ensures) (c .if3 .left),
+    )
 
 returns-4 : tie.Need-returns-4
 returns-4 c =
     let start = c .before .before .before .before .before .before .before .before .before .before in
     let a = start .args in
-    c .tell .ensures ∙ sym (audit-told (a .vendor .now) (a .shipped .now) (a .room) (rw (start .pre) at (c .before .before .before .before .before .before .if1 .left)) (c .before .before .before .before .before .if2 .left) (rw (base (c .before .before .before)) at (granted (c .before .before .legal .ensures) (c .before .if3 .left))))
+    c .tell .ensures ∙ sym (audit-told (a .vendor .now) (a .shipped .now) (a .room)
+    (rw (start .pre) at (c .before .before .before .before .before .before .if1 .left))
+    (c .before .before .before .before .before .if2 .left) (rw
+    (base (c .before .before .before)) at (granted (c .before .before .legal .ensures) (c .before .if3 .left))))
 
 pub survey-spec : {M : Type 1} → statement M
 survey-spec =

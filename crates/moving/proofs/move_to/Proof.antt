@@ -1,7 +1,11 @@
 use Rattle.moving.specs.Moves.{difference}
-use Rattle.moving.specs.MovesLaws.{moved-cong}
-use Rattle.moving.specs.Moving.{wordsOf, moveTo}
-use Prim.Native.Nat.{suc}
+use Rattle.image.specs.Words.{wordsOf}
+use Rattle.image.specs.WordsLaws.{widths}
+use Rattle.relocate.specs.Relocate.{shift}
+use Rattle.relocate.specs.Widths.{moved-by-width}
+use Rattle.moving.specs.Moves.{moved}
+use Rattle.moving.specs.Moving.{moveTo}
+use Prim.Native.Nat.{ℕ}
 use mathlib.Core.Path.{_≡_, refl, _∙_}
 use native.Mathlib.Omega.{arith}
 use borrow.Author.Needs.{needs}
@@ -10,6 +14,9 @@ use Rattle.moving.proofs.move_to.Tie as tie
 
 modular-difference-requires : tie.Need-modular-difference-requires
 modular-difference-requires c κs = search needs
+
+wide-difference-requires : tie.Need-wide-difference-requires
+wide-difference-requires c κs = search needs
 
 move-words-requires : tie.Need-move-words-requires
 move-words-requires c κs = search needs
@@ -21,11 +28,15 @@ returns : tie.Need-returns
 unfolding moveTo
 returns c =
     let words = c .before .before in
-    let a = words .before .before .before .before .args in
+    let wide = words .before .before in
+    let start = wide .before .before .before in
+    let a = start .args in
     let xs = a .image .now in
     let r = a .r in
-    words .move-words .ensures ∙ moved-cong xs (wordsOf xs r) (wordsOf xs r) (λ w. words .before .modular-difference .result) (difference (r .base) (a .base)) (suc (r .n)) (λ j h. refl) (λ j h. refl) (λ j h. words .before .modular-difference .ensures)
+    rw (wide .before .modular-difference .ensures, wide .wide-difference .ensures) at (words .move-words .ensures)
+    ∙ moved-by-width xs (wordsOf xs r) (difference (r .base) (a .base)) (widths xs r (start .pre .0))
 
 pub move-to-spec : {M : Type 1} → statement M
 move-to-spec =
-    tie.close (tie.spec modular-difference-requires move-words-requires same-length returns)
+    tie.close
+    (tie.spec modular-difference-requires wide-difference-requires move-words-requires same-length returns)

@@ -1,87 +1,41 @@
-use Rattle.moving.specs.MovingLaws.{spread, words-kept}
-use Rattle.moving.specs.Moving.{wordsAt, wordsOf}
-use Rattle.moving.specs.MovesLaws.{length-moved}
-use Rattle.moving.specs.Moves.{movedTo}
-use lib.ListN.{length}
-use Prim.Native.Nat.{ℕ, suc, _+_, _-_, _≤_}
-use mathlib.Core.Path.{_≡_, refl, ap, _∙_}
-use mathlib.Core.List.{List}
-use native.Mathlib.Numerals.{add-one}
-use native.Mathlib.Omega.{arith}
+use mathlib.Core.Path.{_≡_, _∙_}
 use borrow.Author.Needs.{needs}
+use Rattle.moving.specs.MovingLaws.{movable-fixed, moved-both}
 use Rattle.moving.proofs.move_words.Statement.{statement}
 use Rattle.moving.proofs.move_words.Tie as tie
 
-abbrev Inv-loop : tie.InvT-loop
-Inv-loop image₀ r d i₀ image i = (i ≤ r .n + 1) × (image ≡ movedTo image₀ (wordsOf image₀ r) (λ w. d) i) × (length image ≡ length image₀)
+move-fixed-requires : tie.Need-move-fixed-requires
+move-fixed-requires c κs = search needs
 
-abbrev μ-loop : tie.MeasureT-loop
-μ-loop image₀ r d i₀ image i = r .n + 1 - i
+le64-requires : tie.Need-le64-requires
+le64-requires c κs = search needs
 
--- the place that a turn finds is the one that stood there at first
-place : (c : tie.After-add32-arg Inv-loop μ-loop) →
-    let at-loop = c .before .before .before .before .before in
-    let a = at-loop .before .before .args in
-    c .before .word-place .result ≡ wordsAt (a .image .now) (a .r) (at-loop .loop .i)
-place c =
-    let at-loop = c .before .before .before .before .before in
-    let start = at-loop .before .before in
+sub-words : tie.Need-sub-words
+sub-words c = search needs
+
+words-requires : tie.Need-words-requires
+words-requires c κs =
+    let load = c .before .before in
+    let fixed = load .before .before .before .before in
+    let start = fixed .before .before .before in
     let a = start .args in
-    let i = at-loop .loop .i in
-    c .before .word-place .ensures ∙ ap (λ (m : List ℕ). wordsAt m (a .r) i) (at-loop .loop .inv .1)
-    ∙ words-kept (a .image .now) (a .r) (start .pre) (λ w. a .d) i i (omega arith) (omega arith)
+    rw (load .le64 .ensures .is)
+    (movable-fixed (a .image .now) (a .r) (start .pre) (a .four) (a .eight) (fixed .move-fixed .last .0) (fixed .move-fixed .ensures))
 
-loop-holds : tie.Need-loop-holds Inv-loop μ-loop
-unfolding movedTo
-loop-holds c = (omega arith, refl, refl)
+same-length : tie.Need-same-length
+same-length c = search needs
 
-word-place-requires : tie.Need-word-place-requires Inv-loop μ-loop
-word-place-requires c κs =
-    let at-loop = c .before .before .before in
-    omega (arith, at-loop .before .before .pre)
-
-add32-requires : tie.Need-add32-requires Inv-loop μ-loop
-add32-requires c κs =
-    let at-loop = c .before .before .before .before .before in
-    let start = at-loop .before .before in
-    omega (arith, place c, spread (start .args .image .now) (start .args .r) (start .pre) .within (at-loop .loop .i) (omega arith))
-
-add-i : tie.Need-add-i Inv-loop μ-loop
-add-i c = search needs
-
-loop-less : tie.Need-loop-less Inv-loop μ-loop
-loop-less c = search needs
-
-loop-again : tie.Need-loop-again Inv-loop μ-loop
-unfolding movedTo
-loop-again c =
-    let add = c .before .before in
-    let at-loop = add .before .before .before .before .before .before in
-    let start = at-loop .before .before in
-    let xs = start .args .image .now in
-    let e : add .add32 .last .0 ≡ movedTo xs (wordsOf xs (start .args .r)) (λ w. start .args .d) (at-loop .loop .i + 1) = rw (add-one, ← at-loop .loop .inv .1, ← place (add .before)) (add .add32 .ensures) in
-    (omega arith, e, ap length e ∙ simp length-moved)
-
-same-length : tie.Need-same-length Inv-loop μ-loop
-same-length c = c .before .before .loop .inv .2
-
-returns : tie.Need-returns Inv-loop μ-loop
+returns : tie.Need-returns
 returns c =
-    let at-loop = c .before .before in
-    let e : at-loop .loop .i ≡ suc (at-loop .before .before .args .r .n) = omega arith in
-    rw e at (at-loop .loop .inv .1)
+    let words = c .before .before in
+    let load = words .before .before .before in
+    let fixed = load .before .before .before .before in
+    let start = fixed .before .before .before in
+    let a = start .args in
+    rw (load .le64 .ensures .is) at (words .words .ensures)
+    ∙ moved-both (a .image .now) (a .r) (start .pre) (a .four) (a .eight) (fixed .move-fixed .last .0) (fixed .move-fixed .ensures)
 
 pub move-words-spec : {M : Type 1} → statement M
 move-words-spec =
     tie.close
-    (tie.spec
-    Inv-loop
-    μ-loop
-    loop-holds
-    word-place-requires
-    add32-requires
-    add-i
-    loop-less
-    loop-again
-    same-length
-    returns)
+    (tie.spec move-fixed-requires le64-requires sub-words words-requires same-length returns)

@@ -29,7 +29,10 @@ add-t16 : tie.Need-add-t16
 add-t16 c = search needs
 
 returns : tie.Need-returns
-returns c = rw (sym (is-test (c .before .before .before .is-setting .ensures)) ∙ c .before .before .if1 .taken, c .before .before .before .before .byte-flips .ensures .0)
+returns c = rw (
+  sym (is-test (c .before .before .before .is-setting .ensures)) ∙ c .before .before .if1 .taken,
+  c .before .before .before .before .byte-flips .ensures .0,
+)
 
 add-t17 : tie.Need-add-t17
 add-t17 c = search needs

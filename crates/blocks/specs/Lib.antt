@@ -1,0 +1,6 @@
+pub mod Blocks
+pub mod BlocksLaws
+pub mod Examples
+pub mod BlocksEach
+pub mod BlocksFrame
+pub mod BlocksPaged

@@ -1,0 +1,5 @@
+pub mod Parts
+pub mod PartsLaws
+pub mod PartsEach
+pub mod PartsFrame
+pub mod FreeLaws

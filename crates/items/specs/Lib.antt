@@ -1,0 +1,6 @@
+pub mod Items
+pub mod ItemsLaws
+pub mod Listed
+pub mod Judged
+pub mod KeptLaws
+pub mod Join

@@ -1,0 +1,5 @@
+pub mod Listing
+pub mod ListingLaws
+pub mod Filling
+pub mod Theorems
+pub mod Small

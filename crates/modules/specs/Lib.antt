@@ -1,0 +1,4 @@
+pub mod Modules
+pub mod ModulesLaws
+pub mod Bounds
+pub mod Frame

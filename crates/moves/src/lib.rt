@@ -1,0 +1,1 @@
+// Moving a list of words, of whatever kind: definitions and laws only.

@@ -1,0 +1,100 @@
+use Prim.Native.Nat.{_+_, _-_}
+use mathlib.Core.Path.{_≡_}
+use Rattle.facts.specs.Rules.{run}
+use Rattle.words.specs.Le.{le}
+use Rattle.whole.specs.Walkable.{Walkable}
+use native.Mathlib.Omega.{arith}
+use Rattle.facts.specs.Fact.{yes, no, granted}
+use Rattle.image.specs.Stages.{fromHeader}
+use borrow.Author.Needs.{needs}
+use Rattle.reading.proofs.from_header.Statement.{statement}
+use Rattle.reading.proofs.from_header.Tie as tie
+
+add-H : tie.Need-add-H
+add-H c = search needs
+
+header-fits-requires : tie.Need-header-fits-requires
+header-fits-requires c κs = search needs
+
+refused-requires : tie.Need-refused-requires
+refused-requires c κs = search needs
+
+returns : tie.Need-returns
+unfolding run fromHeader
+returns c = rw (no (c .before .before .header-fits .ensures) (c .before .if1 .taken)) (c .refused .ensures)
+
+size-fits-requires : tie.Need-size-fits-requires
+size-fits-requires c κs = search needs
+
+refused-requires-2 : tie.Need-refused-requires-2
+refused-requires-2 c κs = search needs
+
+returns-2 : tie.Need-returns-2
+unfolding run fromHeader
+returns-2 c =
+    let past = c .before .before .before in
+    rw (yes (past .before .header-fits .ensures) (past .if1 .left), no (c .before .before .size-fits .ensures) (c .before .if2 .taken)) (c .refused2 .ensures)
+
+add-le32 : tie.Need-add-le32
+add-le32 c = search needs
+
+le32-requires : tie.Need-le32-requires
+le32-requires c κs = search needs
+
+add-round-4 : tie.Need-add-round-4
+add-round-4 c = search needs
+
+round-4-requires : tie.Need-round-4-requires
+round-4-requires c κs =
+    let past = c .before .before .before in
+    let fits = granted (past .before .header-fits .ensures) (past .if1 .left) in
+    omega arith
+
+add-from-component : tie.Need-add-from-component
+add-from-component c = search needs
+
+add-from-component-2 : tie.Need-add-from-component-2
+add-from-component-2 c = search needs
+
+from-component-requires : tie.Need-from-component-requires
+from-component-requires c κs =
+    let past = c .before .before .before .before in
+    let start = past .before .before .before in
+    let a = start .args in
+    let xs = a .image .now in
+    let fits = granted (past .before .header-fits .ensures) (past .if1 .left) in
+    let back : a .f + 28 - 28 ≡ a .f = omega arith in
+    let walk : Walkable xs (le 8 xs 32) (a .f + 28 - 28) = rw back (start .pre .3) in
+    (omega arith, omega arith, omega arith, omega arith, omega arith, omega arith, walk)
+
+returns-3 : tie.Need-returns-3
+unfolding run fromHeader
+returns-3 c =
+    let past2 = c .before .before .before in
+    let past = past2 .before .before in
+    rw (
+      yes (past .before .header-fits .ensures) (past .if1 .left),
+      yes (past2 .before .size-fits .ensures) (past2 .if2 .left),
+      ← c .before .before .le32 .ensures .is,
+      ← c .before .round-4 .ensures,
+    ) (c .from-component .ensures)
+
+pub from-header-spec : {M : Type 1} → statement M
+from-header-spec =
+    tie.close
+    (tie.spec
+    add-H
+    header-fits-requires
+    refused-requires
+    returns
+    size-fits-requires
+    refused-requires-2
+    returns-2
+    add-le32
+    le32-requires
+    add-round-4
+    round-4-requires
+    add-from-component
+    add-from-component-2
+    from-component-requires
+    returns-3)

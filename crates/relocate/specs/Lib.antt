@@ -1,0 +1,9 @@
+pub mod Relocate
+pub mod AsMoved
+pub mod Widths
+pub mod MovableLaws
+pub mod Clear
+pub mod HeldLaws
+pub mod AddItem
+pub mod HandLaws
+pub mod RelocateLaws

@@ -1,0 +1,82 @@
+use Prim.Native.Nat.{_-_, _≤_}
+use native.Mathlib.Omega.{arith}
+use borrow.Author.Count.{below-more}
+use borrow.Author.Needs.{needs}
+use Rattle.sound.specs.Runs.{InRoom, AnyIn}
+use Rattle.sound.proofs.any.Statement.{statement}
+use Rattle.sound.proofs.any.Tie as tie
+
+abbrev Inv-loop : tie.InvT-loop
+Inv-loop image q at k i₀ i = (i ≤ k) × AnyIn image q at i
+
+abbrev μ-loop : tie.MeasureT-loop
+μ-loop image q at k i₀ i = k - i
+
+loop-holds : tie.Need-loop-holds Inv-loop μ-loop
+loop-holds c = (omega arith, λ i h. absurd (omega arith))
+
+mul-le16 : tie.Need-mul-le16 Inv-loop μ-loop
+mul-le16 c = search needs
+
+add-le16 : tie.Need-add-le16 Inv-loop μ-loop
+add-le16 c = search needs
+
+le16-requires : tie.Need-le16-requires Inv-loop μ-loop
+le16-requires c κs = search needs
+
+width-requires : tie.Need-width-requires Inv-loop μ-loop
+width-requires c κs = search needs
+
+returns : tie.Need-returns Inv-loop μ-loop
+returns c = search needs
+
+returns-2 : tie.Need-returns-2 Inv-loop μ-loop
+returns-2 c = search needs
+
+add-if3 : tie.Need-add-if3 Inv-loop μ-loop
+add-if3 c = search needs
+
+returns-3 : tie.Need-returns-3 Inv-loop μ-loop
+returns-3 c = search needs
+
+add-i : tie.Need-add-i Inv-loop μ-loop
+add-i c = search needs
+
+loop-less : tie.Need-loop-less Inv-loop μ-loop
+loop-less c = search needs
+
+loop-again : tie.Need-loop-again Inv-loop μ-loop
+loop-again c =
+    let up = c .before .before in
+    let some = up .before .before in
+    let sized = some .before in
+    let read = sized .before in
+    let at-loop = read .before .before in
+    let a = at-loop .before .before .args in
+    let w = sized .width .ensures .0 in
+    let e = read .le16 .ensures .is in
+    let room : InRoom (a .q) (read .le16 .result) = (omega (arith, w, some .if1 .left), up .if2 .left, omega (arith, w, c .if3 .left)) in
+    (omega arith, below-more _ _ (at-loop .loop .inv .1) (rw e at room))
+
+returns-4 : tie.Need-returns-4 Inv-loop μ-loop
+returns-4 c = search needs
+
+pub any-spec : {M : Type 1} → statement M
+any-spec =
+    tie.close
+    (tie.spec
+    Inv-loop
+    μ-loop
+    loop-holds
+    mul-le16
+    add-le16
+    le16-requires
+    width-requires
+    returns
+    returns-2
+    add-if3
+    returns-3
+    add-i
+    loop-less
+    loop-again
+    returns-4)

@@ -1,0 +1,7 @@
+pub mod Whole
+pub mod WholeLaws
+pub mod Examples
+pub mod Walkable
+pub mod WholeAbove
+pub mod WholeFrame
+pub mod Entries
