@@ -6,7 +6,8 @@
  * A slice passes as a pointer and then its length in bytes. No pointer may be null, even where the
  * length is 0. A buffer that is written (an image to release, a list of places, an answer) must not
  * overlap any other buffer of the same call. The calls keep nothing between them and hold no memory
- * of their own.
+ * of their own but the stack: a reading, a release or an audit takes up to 192 KiB of it, which a
+ * thread with a small stack must have.
  *
  * Each call writes its answer into the caller's answer buffer: 64-bit little-endian numbers at the
  * offsets named below, from the buffer's first byte. Bytes after the answer are kept. The call

@@ -176,43 +176,14 @@ pub fn entry_on(image: &[u8], m: Module, q: Page, at: usize) -> Item
     ensures { λ r. ⌜ (r ≡ itemOf (now (image .entry)) m (q .page) (le 2 (now (image .entry)) at)) × (r .at + r .len < 1099511627776) × (1 ≤ r .kind) ⌝ }
 {
     let e = words::le16(image, at);
-    let t = e / 4096;
+    let w = runs::width(e);
     let o = e % 4096;
-    if o < q.floor {
-        return entry_apart(
-            image,
-            m.kind,
-            m.lo,
-            m.hi,
-            m.pe,
-            m.base,
-            m.width,
-            m.table,
-            m.rows,
-            m.stripped,
-            m.dir,
-            m.size,
-            q.page,
-            at,
-        );
-    }
-    if t == 3 {
-        if o + 4 <= q.room {
-            return Item {
-                kind: 2,
-                at: q.at + o,
-                len: 4,
-            };
-        }
-    }
-    if t == 10 {
-        if o + 8 <= q.room {
-            return Item {
-                kind: 2,
-                at: q.at + o,
-                len: 8,
-            };
-        }
+    if runs::is_sure(q, o, w) {
+        return Item {
+            kind: 2,
+            at: q.at + o,
+            len: w,
+        };
     }
     entry_apart(
         image,

@@ -20,7 +20,7 @@ use Rattle.whole.specs.declared.Spot.{Spot}
 use Rattle.whole.specs.Whole.{Valid}
 use Rattle.whole.specs.Entries.{countOf, entries-within}
 use Rattle.paint.specs.Marks.{Marks, Added}
-use Rattle.paint.specs.MarksLaws.{false-true}
+use Rattle.strokes.specs.StrokesLaws.{false-true}
 use Rattle.clear.specs.declared.Reach.{Reach}
 use Rattle.clear.specs.Clear.{apartFromAt}
 use Rattle.clear.specs.ClearLaws.{at-more}

@@ -4,7 +4,7 @@ use Prim.Native.Nat.{ℕ, suc, _+_, _*_, _≤_, _<_}
 use mathlib.Core.Bool.{Bool, true, false}
 use mathlib.Core.List.{List, [], _∷_, _++_}
 use mathlib.Core.Path.{_≡_}
-use lib.ListN.{length}
+use lib.ListN.{length, getD}
 use Rattle.facts.specs.Fact.{Fact, _≤?_, _≡?_, _and_, _or_, Holds}
 use Rattle.table.specs.Passes.{place}
 use Rattle.items.specs.declared.Item.{Item}
@@ -77,11 +77,16 @@ pub record Going (xs : List ℕ) (v f : ℕ) (before : List Item) (w : ℕ) (ms 
   pub ends : Holds (each (endBy (r .high)) (scan .passed))
   pub behind : Behind xs v f (w + 65536) (r .spot)
 
+-- a window without a mark
+pub record Clean (ms : List ℕ) : Type 0 where
+  pub long : length ms ≡ 65536
+  pub none : (j : ℕ) → j < 65536 → getD ms j 0 ≡ 0
+
 -- what the scan of a window starts from
 pub record Open (xs : List ℕ) (v f t n : ℕ) (ms : List ℕ) (w : ℕ) (s : Spot) : Type 0 where
   pub walkable : Walkable xs v f
   pub patch : Patch xs t n
-  pub long : length ms ≡ 65536
+  pub clean : Clean ms
   pub behind : Behind xs v f w s
   pub small : w ≤ 16777216
 

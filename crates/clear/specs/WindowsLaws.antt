@@ -24,7 +24,8 @@ use Rattle.whole.specs.Walkable.{Passing, passing-end, passing-next}
 use Rattle.whole.specs.Entries.{entriesOf, pastOf, ahead-entries, past-far, passing-entries}
 use Rattle.sound.specs.Rules.{patchFrom, patchItems}
 use Rattle.paint.specs.Marks.{apartAt, free, Marks}
-use Rattle.paint.specs.MarksLaws.{false-true, each-all, mark-same}
+use Rattle.strokes.specs.StrokesLaws.{false-true}
+use Rattle.paint.specs.MarksLaws.{each-all, mark-same}
 use Rattle.clear.specs.declared.Reach.{Reach}
 use Rattle.clear.specs.declared.Trail.{Trail}
 use Rattle.clear.specs.declared.Scan.{Scan}

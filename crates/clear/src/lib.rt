@@ -17,7 +17,7 @@ ghost use Rattle.whole.specs.Whole.{walked};
 ghost use Rattle.whole.specs.Entries.{pastOf, entriesOf};
 ghost use Rattle.sound.specs.Rules.{patchItems};
 ghost use Rattle.clear.specs.Runs.{AtHand, Reached};
-ghost use Rattle.clear.specs.Windows.{Ready, past, done, Followed, Open, Shut};
+ghost use Rattle.clear.specs.Windows.{Ready, Clean, past, done, Followed, Open, Shut};
 
 // The spot up to which all that is passed ends by the window's end; and the highest end of what is passed.
 pub struct Trail {
@@ -176,7 +176,7 @@ fn scan_window(
     requires { ⌜ Open (now image) v f t n (now marks) w from ⌝ }
     ensures { λ r. ⌜ Shut (now (image .entry)) v f t n (now (marks .exit)) w r ⌝ }
 {
-    paint::renew(image, t, n, marks, w);
+    paint::mark_patch(image, t, n, marks, w);
     let k = w + 65536;
     let mut s = from;
     let mut r = Trail {
@@ -203,7 +203,7 @@ fn scan_window(
     }
 }
 
-// All windows from E up to top.
+// All windows from E up to top, the marks being clean.
 fn scan_all(
     image: &[u8],
     v: usize,
@@ -214,7 +214,7 @@ fn scan_all(
     top: usize,
     marks: &mut [u8],
 ) -> bool
-    requires { ⌜ Ready (now image) v f t n E top × (length (now marks) ≡ 65536) ⌝ }
+    requires { ⌜ Ready (now image) v f t n E top × Clean (now marks) ⌝ }
     ensures { λ r. ⌜ Tells r (apartFrom (patchItems (now (image .entry)) t n) (walked (now (image .entry)) v f)) ⌝ }
 {
     let mut s = whole::first(image, f);
@@ -226,6 +226,9 @@ fn scan_all(
         }
         s = r.next;
         w += 65536;
+        if w < top {
+            paint::clear_marks(marks);
+        }
     }
     true
 }

@@ -27,7 +27,7 @@ fn from_modules(image: &[u8], H: usize, t: usize, n: usize, c: usize, z: usize) 
 
 // 12, 22, 13 and 14, one pass over all entries after the other.
 fn from_entries(image: &[u8], H: usize, t: usize, n: usize, c: usize, z: usize) -> Reading
-    requires { ⌜ (H + 80 ≤ length (now image)) × (t + 4 * n ≤ length (now image)) × (c + z ≤ length (now image)) × (28 ≤ H) × Walkable (now image) (le 8 (now image) 32) (H - 28) ⌝ }
+    requires { ⌜ (H + 80 ≤ length (now image)) × (t + 4 * n ≤ length (now image)) × (c + z ≤ length (now image)) × (28 ≤ H) × Walkable (now image) (le 8 (now image) 32) (H - 28) × (n ≤ 1024) ⌝ }
     ensures { λ r. ⌜ r ≡ run refusal (fromEntries (now (image .entry)) H t n c z) ⌝ }
 {
     let a = scans::first_refused(image, t, n, 12);
@@ -51,7 +51,7 @@ fn from_entries(image: &[u8], H: usize, t: usize, n: usize, c: usize, z: usize) 
 
 // 10 and 11.
 pub fn from_region(image: &[u8], H: usize, t: usize, n: usize) -> Reading
-    requires { ⌜ (H + 80 ≤ length (now image)) × (t + 4 * n ≤ length (now image)) × Holds (componentFits (component (now image) H)) × (28 ≤ H) × Walkable (now image) (le 8 (now image) 32) (H - 28) ⌝ }
+    requires { ⌜ (H + 80 ≤ length (now image)) × (t + 4 * n ≤ length (now image)) × Holds (componentFits (component (now image) H)) × (28 ≤ H) × Walkable (now image) (le 8 (now image) 32) (H - 28) × (n ≤ 1024) ⌝ }
     ensures { λ r. ⌜ r ≡ run refusal (fromRegion (now (image .entry)) H t n) ⌝ }
 {
     let c = words::le32(image, H + 36);

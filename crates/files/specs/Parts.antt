@@ -99,6 +99,11 @@ pub record Valid (v : ℕ) (c : Place) : Type 0 where
   pub at-small : c .at ≤ 33554432
   pub file-small : c .file ≤ 33554432
 
+-- a part with no file after it
+abbrev pub lastTurn : ℕ → ℕ → ℕ → ℕ → Turn
+lastTurn v kind at len =
+    record { part = record { kind = kind; at = at; len = len; sort = 0 }; next = record { file = v; end = 0; at = 0 } }
+
 -- a step from c: its part is the next of those ahead, and the rest is ahead of the place that it gives
 pub record Stepped (xs : List ℕ) (v : ℕ) (c : Place) (s : Turn) : Type 0 where
   pub ends : s .part .kind ≡ 0 → ahead xs v c ≡ []

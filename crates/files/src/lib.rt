@@ -3,7 +3,7 @@ ghost use mathlib.Core.Path.{_≡_};
 ghost use Prim.Native.Nat.{ℕ, _+_, _*_, _≤_, _<_};
 ghost use lib.ListN.{length, getD};
 ghost use Rattle.facts.specs.Fact.{Tells};
-ghost use Rattle.files.specs.Parts.{round4, free, fileFits, sectionFits, sectionsAt, firstAt, firstPlace, Valid, Stepped};
+ghost use Rattle.files.specs.Parts.{round4, free, fileFits, sectionFits, sectionsAt, firstAt, firstPlace, lastTurn, Valid, Stepped};
 
 // What the walk meets: 1 a file's header or the free end, 2 a section, 5 none where one should be; 0 the end.
 pub struct Part {
@@ -148,40 +148,35 @@ fn section_step(image: &[u8], v: usize, c: Place) -> Turn
     }
 }
 
+// The part of a volume after which none comes.
+fn last(v: usize, kind: u32, at: usize, len: usize) -> Turn
+    ensures { λ r. ⌜ r ≡ lastTurn v kind at len ⌝ }
+{
+    Turn {
+        part: Part {
+            kind,
+            at,
+            len,
+            sort: 0,
+        },
+        next: Place {
+            file: v,
+            end: 0,
+            at: 0,
+        },
+    }
+}
+
 fn file_step(image: &[u8], v: usize, c: Place) -> Turn
     requires { ⌜ (v ≤ length (now image)) × (v ≤ 16777216) × Valid v c × (c .end ≤ c .at) × (c .file < v) ⌝ }
     ensures { λ s. ⌜ Stepped (now (image .entry)) v c s ⌝ }
 {
     let f = c.file;
     if is_free(image, v, f) {
-        return Turn {
-            part: Part {
-                kind: 1,
-                at: f,
-                len: v - f,
-                sort: 0,
-            },
-            next: Place {
-                file: v,
-                end: 0,
-                at: 0,
-            },
-        };
+        return last(v, 1, f, v - f);
     }
     if !file_fits(image, v, f) {
-        return Turn {
-            part: Part {
-                kind: 5,
-                at: f,
-                len: 0,
-                sort: 0,
-            },
-            next: Place {
-                file: v,
-                end: 0,
-                at: 0,
-            },
-        };
+        return last(v, 5, f, 0);
     }
     let end = f + words::le24(image, f + 20);
     let at = sections_at(image, f);

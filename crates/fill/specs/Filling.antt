@@ -55,6 +55,10 @@ inBytes =
 abbrev pub Room : List ℕ → List ℕ → ℕ → Fill → Type 0
 Room ref ys room f = f .count + length (rest ref ys (f .at)) ≤ room
 
+-- f at k, with nothing to list before it
+abbrev pub wentTo : Fill → ℕ → Ahead → Fill
+wentTo f k ahead = record { at = k; ahead = ahead; count = f .count }
+
 -- u is f after some steps, l the list before and m after them: filled and left together are what they were
 pub record Filled (w : Writing) (ref ys : List ℕ) (r : Reading) (l m : List ℕ) (f u : Fill) : Type 0 where
   pub onward : f .at ≤ u .at
@@ -86,7 +90,7 @@ module _ (w : Writing) (ref ys : List ℕ) (r : Reading) (l : List ℕ) (f : Fil
         kept = rw e (sym (w .more l (f .count) (entry r (s .at)) (entries r (rest ref ys (s .at + 1)))));
       }
 
-  pub fill-on : s .hit ≡ false → Filled w ref ys r l l f (record { at = s .at; ahead = q; count = f .count })
+  pub fill-on : s .hit ≡ false → Filled w ref ys r l l f (wentTo f (s .at) q)
   fill-on pass =
       record { onward = stepped .onward; most = stepped .most; long = refl; room = rw left; kept = rw left }
 

@@ -7,12 +7,14 @@ ghost use mathlib.Core.Path.{_≡_};
 ghost use Prim.Native.Nat.{_≤_, _<_};
 ghost use lib.ListN.{length};
 ghost use lib.Seq.{sets};
+ghost use Rattle.image.specs.Reading.{entriesAt};
 ghost use Rattle.image.specs.Guarantee.{Guaranteed};
+ghost use Rattle.ranks.specs.Ranks.{Ranked};
 ghost use Rattle.queue.specs.Ahead.{Known};
 ghost use Rattle.walk.specs.Differences.{differences, entries};
 ghost use Rattle.walk.specs.Windows.{Within, Stands, spent};
 ghost use Rattle.stride.specs.Stride.{Coming, by};
-ghost use Rattle.fill.specs.Filling.{Room, Filled, inWords};
+ghost use Rattle.fill.specs.Filling.{Room, Filled, inWords, wentTo};
 
 // How many places are filled, and where the walk stands.
 pub struct Fill {
@@ -21,11 +23,23 @@ pub struct Fill {
     pub count: usize,
 }
 
+// Nothing to list before k.
+pub fn went(f: Fill, k: usize, ahead: Ahead) -> Fill
+    ensures { λ u. ⌜ u ≡ wentTo f k ahead ⌝ }
+{
+    Fill {
+        at: k,
+        ahead,
+        count: f.count,
+    }
+}
+
 // One step of the walk, with what it lists; the modules' next word is the one of m bytes at p.
 fn fill_step(
     vendor: &[u8],
     shipped: &[u8],
     places: &mut [u32],
+    ranks: &[u32],
     r: Reading,
     four: u32,
     eight: u64,
@@ -34,14 +48,18 @@ fn fill_step(
     m: usize,
 ) -> Fill
     requires { ⌜ Guaranteed (now vendor) r × (length (now shipped) ≡ length (now vendor)) × (f .at < length (now vendor))
-        × Known (now vendor) r (f .at) (f .ahead) × Coming (now vendor) r (f .at) p m
+        × Known (now vendor) r (now ranks) (f .at) (f .ahead) × Coming (now vendor) r (f .at) p m
         × Room (by (now vendor) r four eight) (now shipped) (length (now places)) f ⌝ }
     ensures { λ u. ⌜ Filled inWords (by (now (vendor .entry)) r four eight) (now (shipped .entry)) r (now (places .entry)) (now
         (places .exit)) f u ⌝ }
-    ensures { λ u. ⌜ Known (now (vendor .entry)) r (u .at) (u .ahead) × (f .at < u .at) ⌝ }
+    ensures { λ u. ⌜ Known (now (vendor .entry)) r (now (ranks .entry)) (u .at) (u .ahead) × (f .at < u .at) ⌝ }
 {
     let known = f.ahead;
-    let ahead = queue::current_words(vendor, r, f.at, known);
+    let ahead = queue::current_words(vendor, r, ranks, f.at, known);
+    let k = stride::pass(vendor, shipped, r, four, eight, f.at, ahead.first, p, m);
+    if f.at < k {
+        return went(f, k, ahead);
+    }
     let s = stride::advance(vendor, shipped, r, four, eight, f.at, ahead.first, p, m);
     if s.hit {
         let i = f.count;
@@ -52,11 +70,7 @@ fn fill_step(
             count: i + 1,
         };
     }
-    Fill {
-        at: s.at,
-        ahead,
-        count: f.count,
-    }
+    went(f, s.at, ahead)
 }
 
 // The walk up to the end of that word.
@@ -64,6 +78,7 @@ fn fill_until(
     vendor: &[u8],
     shipped: &[u8],
     places: &mut [u32],
+    ranks: &[u32],
     r: Reading,
     four: u32,
     eight: u64,
@@ -72,16 +87,16 @@ fn fill_until(
     m: usize,
 ) -> Fill
     requires { ⌜ Guaranteed (now vendor) r × (length (now shipped) ≡ length (now vendor)) × (f .at < length (now vendor))
-        × Known (now vendor) r (f .at) (f .ahead) × Coming (now vendor) r (f .at) p m
+        × Known (now vendor) r (now ranks) (f .at) (f .ahead) × Coming (now vendor) r (f .at) p m
         × Room (by (now vendor) r four eight) (now shipped) (length (now places)) f ⌝ }
     ensures { λ u. ⌜ Filled inWords (by (now (vendor .entry)) r four eight) (now (shipped .entry)) r (now (places .entry)) (now
         (places .exit)) f u ⌝ }
-    ensures { λ u. ⌜ Known (now (vendor .entry)) r (u .at) (u .ahead) × (f .at < u .at) ⌝ }
+    ensures { λ u. ⌜ Known (now (vendor .entry)) r (now (ranks .entry)) (u .at) (u .ahead) × (f .at < u .at) ⌝ }
 {
     let end = stride::end_of(p, m, vendor.len());
     let mut g = f;
     while g.at < end {
-        g = fill_step(vendor, shipped, places, r, four, eight, g, p, m);
+        g = fill_step(vendor, shipped, places, ranks, r, four, eight, g, p, m);
     }
     g
 }
@@ -91,6 +106,7 @@ fn fill_window(
     vendor: &[u8],
     shipped: &[u8],
     places: &mut [u32],
+    ranks: &[u32],
     marks: &[u8],
     r: Reading,
     four: u32,
@@ -98,12 +114,12 @@ fn fill_window(
     f: Fill,
     q: Window,
 ) -> Fill
-    requires { ⌜ Guaranteed (now vendor) r × (length (now shipped) ≡ length (now vendor)) × Known (now vendor) r (f .at) (f .ahead)
+    requires { ⌜ Guaranteed (now vendor) r × (length (now shipped) ≡ length (now vendor)) × Known (now vendor) r (now ranks) (f .at) (f .ahead)
         × Within (now vendor) r (now marks) (f .at) q
         × Room (by (now vendor) r four eight) (now shipped) (length (now places)) f ⌝ }
     ensures { λ u. ⌜ Filled inWords (by (now (vendor .entry)) r four eight) (now (shipped .entry)) r (now (places .entry)) (now
         (places .exit)) f u ⌝ }
-    ensures { λ u. ⌜ Known (now (vendor .entry)) r (u .at) (u .ahead) × (f .at < u .at)
+    ensures { λ u. ⌜ Known (now (vendor .entry)) r (now (ranks .entry)) (u .at) (u .ahead) × (f .at < u .at)
         × Stands (now (vendor .entry)) r (now (marks .entry)) (u .at) (spent q) ⌝ }
 {
     let mut g = f;
@@ -112,7 +128,8 @@ fn fill_window(
         width: q.width,
     };
     loop {
-        g = fill_until(vendor, shipped, places, r, four, eight, g, m.at, m.width);
+        let w = m.width;
+        g = fill_until(vendor, shipped, places, ranks, r, four, eight, g, m.at, w);
         m = windows::next_in(marks, q.from, q.to, m, g.at);
         if q.to <= m.at {
             return g;
@@ -120,11 +137,12 @@ fn fill_window(
     }
 }
 
-// The whole walk, from one window of the modules' words to the next; the marks are `near`'s.
+// The whole walk, from one window of the modules' words to the next; the marks are `near`'s, the ranks the patch words in order.
 fn fill_walk(
     vendor: &[u8],
     shipped: &[u8],
     places: &mut [u32],
+    ranks: &[u32],
     r: Reading,
     four: u32,
     eight: u64,
@@ -132,7 +150,7 @@ fn fill_walk(
 )
     requires { ⌜ Guaranteed (now vendor) r × (length (now shipped) ≡ length (now vendor))
         × (length (differences (by (now vendor) r four eight) (now shipped) 0 (length (now shipped))) ≤ length (now places))
-        × (length (now marks) ≡ 65536) ⌝ }
+        × (length (now marks) ≡ 65536) × Ranked (now vendor) (entriesAt r) (r .n) (now ranks) ⌝ }
     ensures { λ _. ⌜ now (places .exit)
         ≡ sets (now (places .entry)) 0 (entries r (differences (by (now (vendor .entry)) r four eight) (now (shipped .entry)) 0 (length (now
         (shipped .entry))))) ⌝ }
@@ -142,12 +160,12 @@ fn fill_walk(
     let mut q = windows::open(vendor, v, h);
     let mut f = Fill {
         at: 0,
-        ahead: queue::next_words(vendor, r, 0),
+        ahead: queue::start(r),
         count: 0,
     };
     while f.at < vendor.len() {
         q = windows::current(vendor, v, h, marks, f.at, q);
-        f = fill_window(vendor, shipped, places, marks, r, four, eight, f, q);
+        f = fill_window(vendor, shipped, places, ranks, marks, r, four, eight, f, q);
         q.at = q.to;
         q.width = 0;
     }
@@ -169,5 +187,7 @@ pub fn fill_all(
         (shipped .entry))))) ⌝ }
 {
     let mut marks = [0u8; 65536];
-    fill_walk(vendor, shipped, places, r, four, eight, &mut marks);
+    let mut list = [0u32; 1024];
+    queue::rank_words(vendor, r, &mut list);
+    fill_walk(vendor, shipped, places, &list, r, four, eight, &mut marks);
 }

@@ -7,7 +7,9 @@ ghost use mathlib.Core.Path.{_≡_};
 ghost use Prim.Native.Nat.{_/_, _≤_, _<_};
 ghost use lib.ListN.{length};
 ghost use Rattle.words.specs.Put.{putAll};
+ghost use Rattle.image.specs.Reading.{entriesAt};
 ghost use Rattle.image.specs.Guarantee.{Guaranteed};
+ghost use Rattle.ranks.specs.Ranks.{Ranked};
 ghost use Rattle.queue.specs.Ahead.{Known};
 ghost use Rattle.walk.specs.Differences.{differences, entries};
 ghost use Rattle.walk.specs.Windows.{Within, Stands, spent};
@@ -19,6 +21,7 @@ fn fill_step(
     vendor: &[u8],
     shipped: &[u8],
     places: &mut [u8],
+    ranks: &[u32],
     r: Reading,
     four: u32,
     eight: u64,
@@ -27,14 +30,18 @@ fn fill_step(
     m: usize,
 ) -> Fill
     requires { ⌜ Guaranteed (now vendor) r × (length (now shipped) ≡ length (now vendor)) × (f .at < length (now vendor))
-        × Known (now vendor) r (f .at) (f .ahead) × Coming (now vendor) r (f .at) p m
+        × Known (now vendor) r (now ranks) (f .at) (f .ahead) × Coming (now vendor) r (f .at) p m
         × Room (by (now vendor) r four eight) (now shipped) (length (now places) / 4) f ⌝ }
     ensures { λ u. ⌜ Filled inBytes (by (now (vendor .entry)) r four eight) (now (shipped .entry)) r (now (places .entry)) (now
         (places .exit)) f u ⌝ }
-    ensures { λ u. ⌜ Known (now (vendor .entry)) r (u .at) (u .ahead) × (f .at < u .at) ⌝ }
+    ensures { λ u. ⌜ Known (now (vendor .entry)) r (now (ranks .entry)) (u .at) (u .ahead) × (f .at < u .at) ⌝ }
 {
     let known = f.ahead;
-    let ahead = queue::current_words(vendor, r, f.at, known);
+    let ahead = queue::current_words(vendor, r, ranks, f.at, known);
+    let k = stride::pass(vendor, shipped, r, four, eight, f.at, ahead.first, p, m);
+    if f.at < k {
+        return fill::went(f, k, ahead);
+    }
     let s = stride::advance(vendor, shipped, r, four, eight, f.at, ahead.first, p, m);
     if s.hit {
         let j = f.count;
@@ -45,11 +52,7 @@ fn fill_step(
             count: j + 1,
         };
     }
-    Fill {
-        at: s.at,
-        ahead,
-        count: f.count,
-    }
+    fill::went(f, s.at, ahead)
 }
 
 // The walk up to the end of that word.
@@ -57,6 +60,7 @@ fn fill_until(
     vendor: &[u8],
     shipped: &[u8],
     places: &mut [u8],
+    ranks: &[u32],
     r: Reading,
     four: u32,
     eight: u64,
@@ -65,16 +69,16 @@ fn fill_until(
     m: usize,
 ) -> Fill
     requires { ⌜ Guaranteed (now vendor) r × (length (now shipped) ≡ length (now vendor)) × (f .at < length (now vendor))
-        × Known (now vendor) r (f .at) (f .ahead) × Coming (now vendor) r (f .at) p m
+        × Known (now vendor) r (now ranks) (f .at) (f .ahead) × Coming (now vendor) r (f .at) p m
         × Room (by (now vendor) r four eight) (now shipped) (length (now places) / 4) f ⌝ }
     ensures { λ u. ⌜ Filled inBytes (by (now (vendor .entry)) r four eight) (now (shipped .entry)) r (now (places .entry)) (now
         (places .exit)) f u ⌝ }
-    ensures { λ u. ⌜ Known (now (vendor .entry)) r (u .at) (u .ahead) × (f .at < u .at) ⌝ }
+    ensures { λ u. ⌜ Known (now (vendor .entry)) r (now (ranks .entry)) (u .at) (u .ahead) × (f .at < u .at) ⌝ }
 {
     let end = stride::end_of(p, m, vendor.len());
     let mut g = f;
     while g.at < end {
-        g = fill_step(vendor, shipped, places, r, four, eight, g, p, m);
+        g = fill_step(vendor, shipped, places, ranks, r, four, eight, g, p, m);
     }
     g
 }
@@ -84,6 +88,7 @@ fn fill_window(
     vendor: &[u8],
     shipped: &[u8],
     places: &mut [u8],
+    ranks: &[u32],
     marks: &[u8],
     r: Reading,
     four: u32,
@@ -91,12 +96,12 @@ fn fill_window(
     f: Fill,
     q: Window,
 ) -> Fill
-    requires { ⌜ Guaranteed (now vendor) r × (length (now shipped) ≡ length (now vendor)) × Known (now vendor) r (f .at) (f .ahead)
+    requires { ⌜ Guaranteed (now vendor) r × (length (now shipped) ≡ length (now vendor)) × Known (now vendor) r (now ranks) (f .at) (f .ahead)
         × Within (now vendor) r (now marks) (f .at) q
         × Room (by (now vendor) r four eight) (now shipped) (length (now places) / 4) f ⌝ }
     ensures { λ u. ⌜ Filled inBytes (by (now (vendor .entry)) r four eight) (now (shipped .entry)) r (now (places .entry)) (now
         (places .exit)) f u ⌝ }
-    ensures { λ u. ⌜ Known (now (vendor .entry)) r (u .at) (u .ahead) × (f .at < u .at)
+    ensures { λ u. ⌜ Known (now (vendor .entry)) r (now (ranks .entry)) (u .at) (u .ahead) × (f .at < u .at)
         × Stands (now (vendor .entry)) r (now (marks .entry)) (u .at) (spent q) ⌝ }
 {
     let mut g = f;
@@ -105,7 +110,8 @@ fn fill_window(
         width: q.width,
     };
     loop {
-        g = fill_until(vendor, shipped, places, r, four, eight, g, m.at, m.width);
+        let w = m.width;
+        g = fill_until(vendor, shipped, places, ranks, r, four, eight, g, m.at, w);
         m = windows::next_in(marks, q.from, q.to, m, g.at);
         if q.to <= m.at {
             return g;
@@ -113,11 +119,12 @@ fn fill_window(
     }
 }
 
-// The whole walk in such a list, from one window of the modules' words to the next; the marks are `near`'s.
+// The whole walk in such a list, from one window of the modules' words to the next; the marks are `near`'s, the ranks the patch words in order.
 fn fill_walk(
     vendor: &[u8],
     shipped: &[u8],
     places: &mut [u8],
+    ranks: &[u32],
     r: Reading,
     four: u32,
     eight: u64,
@@ -125,7 +132,7 @@ fn fill_walk(
 )
     requires { ⌜ Guaranteed (now vendor) r × (length (now shipped) ≡ length (now vendor))
         × (length (differences (by (now vendor) r four eight) (now shipped) 0 (length (now shipped))) ≤ length (now places) / 4)
-        × (length (now marks) ≡ 65536) ⌝ }
+        × (length (now marks) ≡ 65536) × Ranked (now vendor) (entriesAt r) (r .n) (now ranks) ⌝ }
     ensures { λ _. ⌜ now (places .exit)
         ≡ putAll 4 (now (places .entry)) 0 (entries r (differences (by (now (vendor .entry)) r four eight) (now (shipped .entry)) 0 (length
         (now (shipped .entry))))) ⌝ }
@@ -135,12 +142,12 @@ fn fill_walk(
     let mut q = windows::open(vendor, v, h);
     let mut f = Fill {
         at: 0,
-        ahead: queue::next_words(vendor, r, 0),
+        ahead: queue::start(r),
         count: 0,
     };
     while f.at < vendor.len() {
         q = windows::current(vendor, v, h, marks, f.at, q);
-        f = fill_window(vendor, shipped, places, marks, r, four, eight, f, q);
+        f = fill_window(vendor, shipped, places, ranks, marks, r, four, eight, f, q);
         q.at = q.to;
         q.width = 0;
     }
@@ -155,5 +162,7 @@ pub fn fill_all(vendor: &[u8], shipped: &[u8], places: &mut [u8], r: Reading, fo
         (now (shipped .entry))))) ⌝ }
 {
     let mut marks = [0u8; 65536];
-    fill_walk(vendor, shipped, places, r, four, eight, &mut marks);
+    let mut list = [0u32; 1024];
+    queue::rank_words(vendor, r, &mut list);
+    fill_walk(vendor, shipped, places, &list, r, four, eight, &mut marks);
 }

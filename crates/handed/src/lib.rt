@@ -9,24 +9,25 @@ ghost use lib.ListN.{length};
 ghost use Rattle.words.specs.Put.{putAll};
 ghost use Rattle.answers.specs.Steps.{kindFields, stepFields, countFields};
 
+// A kind with nothing of its own.
+fn plain(kind: u64) -> KindFields
+    ensures { λ r. ⌜ r ≡ record { kind = kind; a = 0; b = 0; c = 0; d = 0 } ⌝ }
+{
+    KindFields {
+        kind,
+        a: 0,
+        b: 0,
+        c: 0,
+        d: 0,
+    }
+}
+
 fn kind_fields(kind: Kind) -> KindFields
     ensures { λ r. ⌜ r ≡ kindFields kind ⌝ }
 {
     match kind {
-        Kind::Nothing => KindFields {
-            kind: 0,
-            a: 0,
-            b: 0,
-            c: 0,
-            d: 0,
-        },
-        Kind::Handoff => KindFields {
-            kind: 1,
-            a: 0,
-            b: 0,
-            c: 0,
-            d: 0,
-        },
+        Kind::Nothing => plain(0),
+        Kind::Handoff => plain(1),
         Kind::Resource {
             code,
             attributes,
@@ -46,20 +47,8 @@ fn kind_fields(kind: Kind) -> KindFields
             c: 0,
             d: 0,
         },
-        Kind::Unknown => KindFields {
-            kind: 4,
-            a: 0,
-            b: 0,
-            c: 0,
-            d: 0,
-        },
-        Kind::End => KindFields {
-            kind: 5,
-            a: 0,
-            b: 0,
-            c: 0,
-            d: 0,
-        },
+        Kind::Unknown => plain(4),
+        Kind::End => plain(5),
     }
 }
 

@@ -1,9 +1,9 @@
 -- Marking the words of a walk: an item, the entries of a block, a turn of the loop.
 -- Assumes nothing.
-use Prim.Native.Nat.{ℕ, _+_, _-_, _/_, _%_, _≤_, _<_}
+use Prim.Native.Nat.{ℕ, zero, suc, _+_, _-_, _/_, _%_, _≤_, _<_}
 use mathlib.Core.List.{List, [], _∷_, _++_}
 use mathlib.Core.Logic.{_⊎_, inl, inr}
-use mathlib.Core.Path.{_≡_, refl, sym, _∙_}
+use mathlib.Core.Path.{_≡_, refl, sym, ap, _∙_}
 use native.Mathlib.Omega.{arith}
 use native.Mathlib.Decide.{ℕ-discrete}
 use lib.Dec.{ltb, eqb}
@@ -14,14 +14,19 @@ use Rattle.items.specs.declared.Item.{Item}
 use Rattle.rows.specs.declared.Module.{Module}
 use Rattle.places.specs.declared.Span.{Span}
 use Rattle.places.specs.Places.{found}
+use Rattle.pages.specs.declared.Page.{Page}
+use Rattle.pages.specs.Pages.{Paged}
+use Rattle.runs.specs.Runs.{widthOf}
+use Rattle.runs.specs.RunsLaws.{width-most}
 use Rattle.blocks.specs.Blocks.{wordOf, itemOf, entriesFrom}
+use Rattle.blocks.specs.BlocksPaged.{item-on, item-none}
 use Rattle.whole.specs.declared.Spot.{Spot}
 use Rattle.whole.specs.declared.Move.{Move}
 use Rattle.whole.specs.Whole.{ahead, Valid, Stepped}
 use Rattle.whole.specs.Entries.{entriesOf, pastOf, ahead-entries}
 use Rattle.marks.specs.Marks.{Marked}
 use Rattle.near.specs.Near.{Has, Telling, Low, Filling, Noting, Filled}
-use Rattle.near.specs.NearLaws.{step-none, entries-next, low-above}
+use Rattle.near.specs.NearLaws.{step-none, entries-next, low-above, has-split, has-later}
 
 module _ (all : List Item) (from n : ℕ) where
   pub filling-start : (ms : List ℕ) → n ≤ length ms → ((i : ℕ) → i < n → getD ms i 0 ≡ 0) → Filling all all from n ms
@@ -128,6 +133,40 @@ pub noting-end : (xs : List ℕ) (m : Module) (page at k from n : ℕ) (l : List
     → Noting l (entriesFrom xs m page at k) from n old new → Noting l [] from n old new
 unfolding entriesFrom
 noting-end xs m page at k from n l old new e noting = rw e at noting
+
+-- entries of which no word starts in the window leave the marks as they are
+pub noting-off : (l : List Item) (from n : ℕ) (ms : List ℕ) → ((i w : ℕ) → Has l i w → (i < from) ⊎ (from + n ≤ i)) → Noting l [] from n ms ms
+noting-off l from n ms off all rest telling filling =
+    record {
+      size = filling .size;
+      seen = λ i w h g.
+          elim (filling .seen i w h g) [
+            | inl a ↦ inl a
+            | inr a ↦
+                elim (has-split l rest (from + i) w a) [
+                  | inl b ↦ absurd (elim (off (from + i) w b) [ inl c ↦ omega arith | inr c ↦ omega arith ])
+                  | inr b ↦ inr b
+                ]
+          ];
+      word = filling .word;
+      back = λ k w h. filling .back k w (has-later l rest k w h);
+    }
+
+-- the words of a page in the middle of its data start in it
+pub has-page : (xs : List ℕ) (m : Module) (q : Page) → Paged xs m (q .page) q → q .floor ≤ 0 → 4104 ≤ q .room → (at k i w : ℕ)
+    → Has (entriesFrom xs m (q .page) at k) i w → (q .at ≤ i) × (i < q .at + 4096)
+unfolding Has entriesFrom
+has-page xs m q paged low room at zero i w h = absurd h
+has-page xs m q paged low room at (suc k) i w (inl (a, b, c)) =
+    let e = le 2 xs at in
+    elim (ℕ-discrete (widthOf e) 0) [
+      | yes z ↦ absurd (item-none xs m (q .page) e z a)
+      | no s ↦
+          let is = item-on xs m (q .page) q paged e (omega arith, omega arith, omega (arith, width-most e)) in
+          let at-is : q .at + e % 4096 ≡ i = sym (ap (λ (x : Item). x .at) is) ∙ b in
+          (omega arith, omega arith)
+    ]
+has-page xs m q paged low room at (suc k) i w (inr h) = has-page xs m q paged low room (at + 2) k i w h
 
 -- ---- the walk's turns
 

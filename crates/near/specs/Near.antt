@@ -110,7 +110,7 @@ pub record Refilled (xs : List ℕ) (v : ℕ) (q r : Window) (ms : List ℕ) : T
   pub word : (i : ℕ) → r .at ≤ r .from + i → r .from + i < r .to → (getD ms i 0 ≡ 0 → ⊥)
       → Has (ahead xs v (q .spot)) (r .from + i) (getD ms i 0)
   pub here : r .at < r .to → (getD ms (r .at - r .from) 0 ≡ r .width) × (r .width ≡ 0 → ⊥)
-  pub passed : Passed xs v (q .spot) (q .to) (r .spot)
+  pub passed : Passed xs v (q .spot) (r .to) (r .spot)
 
 -- a walk that stands at `at` has passed every word that starts below q .at; from there on the marks are exact
 pub record Standing (xs : List ℕ) (v f at : ℕ) (q : Window) (ms : List ℕ) : Type 0 where

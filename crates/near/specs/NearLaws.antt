@@ -1,6 +1,7 @@
 -- The words of a list, and the walk to the first word that is yet to come.
 -- Assumes nothing.
 use Prim.Native.Nat.{ℕ, zero, suc, _+_, _-_, _≤_, _<_}
+use mathlib.Core.Bool.{Bool, true, false}
 use mathlib.Core.List.{List, [], _∷_, _++_}
 use mathlib.Core.Logic.{_⊎_, inl, inr}
 use mathlib.Core.Path.{_≡_, refl, sym, ap, _∙_}
@@ -125,13 +126,13 @@ pub below-end : (xs : List ℕ) (m : Module) (page at k n : ℕ) (l : List Item)
 unfolding Has entriesFrom
 below-end xs m page at k n l e below i w h = elim (below i w h) [ inl a ↦ a | inr a ↦ absurd (rw e at a) ]
 
-has-split : (l m : List Item) (k w : ℕ) → Has (l ++ m) k w → Has l k w ⊎ Has m k w
+pub has-split : (l m : List Item) (k w : ℕ) → Has (l ++ m) k w → Has l k w ⊎ Has m k w
 unfolding Has
 has-split [] m k w h = inr h
 has-split (x ∷ l) m k w (inl h) = inl (inl h)
 has-split (x ∷ l) m k w (inr h) = elim (has-split l m k w h) [ inl a ↦ inl (inr a) | inr a ↦ inr a ]
 
-has-later : (l m : List Item) (k w : ℕ) → Has m k w → Has (l ++ m) k w
+pub has-later : (l m : List Item) (k w : ℕ) → Has m k w → Has (l ++ m) k w
 unfolding Has
 has-later [] m k w h = h
 has-later (x ∷ l) m k w h = inr (has-later l m k w h)
@@ -164,6 +165,24 @@ low-less s n k h low =
       section = λ l. omega (arith, low .section l);
       file = omega (arith, low .file);
     }
+
+-- on and on
+pub passed-join : (xs : List ℕ) (v : ℕ) (s t u : Spot) (n m : ℕ) → n ≤ m → Passed xs v s n t → Passed xs v t m u → Passed xs v s m u
+passed-join xs v s t u n m up a b =
+    record {
+      valid = b .valid;
+      below = λ k w h. elim (a .below k w h) [ inl z ↦ inl (omega arith) | inr z ↦ b .below k w z ];
+      back = λ k w h. a .back k w (b .back k w h);
+    }
+
+-- a spot that is kept while nothing passed comes too late
+pub kept-on : (xs : List ℕ) (v : ℕ) (s : Spot) (n : ℕ) (late : Bool) (kept spot new next : Spot) → Passed xs v s n kept
+    → (late ≡ false → (kept ≡ spot) × (Passed xs v s n spot → Passed xs v s n new))
+    → (late ≡ true → next ≡ kept) → (late ≡ false → next ≡ new) → Passed xs v s n next
+kept-on xs v s n true kept spot new next p early stays goes = rw (stays refl) p
+kept-on xs v s n false kept spot new next p early stays goes =
+    let (same, on) = early refl in
+    rw (goes refl) (on (rw same at p))
 
 -- ---- on to the first word that is yet to come
 

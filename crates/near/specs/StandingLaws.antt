@@ -19,9 +19,9 @@ use Rattle.marks.specs.Marks.{First}
 use Rattle.near.specs.declared.Window.{Window}
 use Rattle.near.specs.declared.Mark.{Mark}
 use Rattle.near.specs.declared.Found.{Found}
-use Rattle.near.specs.Near.{moduleWords, Ordered, Next, Has, Telling, Sought, Filled, Settled, Refilled, Standing}
+use Rattle.near.specs.Near.{moduleWords, Ordered, Next, Has, Telling, Passed, Sought, Filled, Settled, Refilled, Standing}
 use Rattle.near.specs.Near.{at-mark, Fitting, Onward, WentOn}
-use Rattle.near.specs.NearLaws.{has-nth, nth-has, has-inside, has-one}
+use Rattle.near.specs.NearLaws.{has-nth, nth-has, has-inside, has-one, passed-join}
 
 -- ---- a window
 
@@ -60,8 +60,8 @@ window-grows before from to end up some low more =
 module _ (xs : List ℕ) (v : ℕ) (q : Window) (u : Found) (to : ℕ) (ms : List ℕ) (r : Mark) where
   pub refilled : Sought xs v (q .spot) (q .to) u → q .to < to → u .low ≤ to → to ≤ length xs
       → Filled (ahead xs v (u .spot)) (u .low) (to - u .low) ms → Settled ms (u .low) to 0 r
-      → Refilled xs v q (at-mark (u .low) to (u .spot) r) ms
-  refilled sought more low most filled settled =
+      → (s : Spot) → Passed xs v (u .spot) (u .low + (to - u .low)) s → Refilled xs v q (at-mark (u .low) to s r) ms
+  refilled sought more low most filled settled s on =
       record {
         onward = sought .onward;
         low = omega (arith, settled .onward);
@@ -85,7 +85,7 @@ module _ (xs : List ℕ) (v : ℕ) (q : Window) (u : Found) (to : ℕ) (ms : Lis
             ];
         word = λ i h l g. sought .passed .back _ _ (filled .word i (omega arith) g);
         here = settled .here;
-        passed = sought .passed;
+        passed = let e : u .low + (to - u .low) ≡ to = omega arith in passed-join xs v (q .spot) (u .spot) s (q .to) to (omega arith) (sought .passed) (rw e at on);
       }
 
 module _ (xs : List ℕ) (v f : ℕ) where
@@ -225,7 +225,7 @@ module _ (xs : List ℕ) (v f : ℕ) where
           below = λ k w h.
               elim (standing .below k w h) [
                 | inl o ↦ inl (omega (arith, refilled .more))
-                | inr o ↦ elim (refilled .passed .below k w o) [ inl z ↦ inl (omega (arith, refilled .more)) | inr z ↦ inr z ]
+                | inr o ↦ refilled .passed .below k w o
               ];
           back = λ k w h. standing .back k w (refilled .passed .back k w h);
         }

@@ -4,6 +4,7 @@
 use blocks::Cursor;
 use files::Place;
 use items::Item;
+use pages::Page;
 use rows::Module;
 use whole::Spot;
 ghost use mathlib.Core.Bool.{true, false};
@@ -12,10 +13,12 @@ ghost use mathlib.Core.Path.{_≡_};
 ghost use Prim.Native.Nat.{ℕ, _+_, _-_, _*_, _≤_, _<_};
 ghost use mathlib.Core.List.{[]};
 ghost use lib.ListN.{length, getD};
+ghost use Rattle.facts.specs.Fact.{Tells, _≤?_, _and_};
+ghost use Rattle.pages.specs.Pages.{Paged};
 ghost use Rattle.whole.specs.Whole.{ahead, Valid};
 ghost use Rattle.modules.specs.Modules.{Fits};
 ghost use Rattle.blocks.specs.Blocks.{entriesFrom};
-ghost use Rattle.near.specs.Near.{Has, Telling, Done, Low, Sought, Noting, Filled};
+ghost use Rattle.near.specs.Near.{Has, Telling, Done, Low, Passed, Sought, Noting, Filled};
 
 // The marks tell the words that start in from..to-1. The next one stands at `at` and has `width` bytes; at `to` the window is used up. The
 // walk that fills the next window starts at `spot`.
@@ -170,7 +173,62 @@ pub fn seek(image: &[u8], v: usize, s: Spot, from: usize) -> Found
     }
 }
 
-// Marks those of the k entries at `at` that are words and start in the n places from `from` on.
+fn either(a: bool, b: bool) -> bool
+    ensures { λ r. ⌜ (r ≡ false → (a ≡ false) × (b ≡ false)) ⌝ }
+{
+    if a {
+        return true;
+    }
+    b
+}
+
+// Whether each word that an entry of the page can name lies in its room, as in the middle of its data.
+fn is_whole(q: Page) -> bool
+    ensures { λ r. ⌜ Tells r (q .floor ≤? 0 and 4104 ≤? q .room) ⌝ }
+{
+    if q.floor != 0 {
+        return false;
+    }
+    if q.room < 4104 {
+        return false;
+    }
+    true
+}
+
+// Marks those of the k entries at `at` of this page that are words and start in the n places from `from` on; whether one starts after them.
+fn mark_each(
+    image: &[u8],
+    m: Module,
+    q: Page,
+    at: usize,
+    k: usize,
+    from: usize,
+    n: usize,
+    marks: &mut [u8],
+) -> bool
+    requires { ⌜ Fits (now image) m × Paged (now image) m (q .page) q × (q .page < 4294967296) × (at + 2 * k ≤ length (now image))
+        × (length (now image) ≤ 16777216) ⌝ }
+    requires { ⌜ (n ≤ length (now marks)) × (from + n ≤ 16777216) ⌝ }
+    ensures { λ _. ⌜ Noting (entriesFrom (now (image .entry)) m (q .page) at k) [] from n (now (marks .entry)) (now (marks .exit)) ⌝ }
+    ensures { λ _. ⌜ length (now (marks .exit)) ≡ length (now (marks .entry)) ⌝ }
+    ensures { λ r. ⌜ (r ≡ false → (i w : ℕ) → Has (entriesFrom (now (image .entry)) m (q .page) at k) i w → i < from + n) ⌝ }
+{
+    let to = from + n;
+    let mut e = at;
+    let mut left = k;
+    let mut late = false;
+    while left > 0 {
+        let x = blocks::entry_on(image, m, q, e);
+        late = either(late, is_new(x, to));
+        marks::mark(marks, from, n, x);
+        e += 2;
+        left -= 1;
+    }
+    late
+}
+
+// The same of a block with this page: one that lies off these places is passed at once, so that a large module costs its blocks for each
+// window and not its words.
 fn mark_entries(
     image: &[u8],
     m: Module,
@@ -180,47 +238,66 @@ fn mark_entries(
     from: usize,
     n: usize,
     marks: &mut [u8],
-)
+) -> bool
     requires { ⌜ Fits (now image) m × (page < 4294967296) × (at + 2 * k ≤ length (now image)) × (length (now image) ≤ 16777216) ⌝ }
-    requires { ⌜ n ≤ length (now marks) ⌝ }
+    requires { ⌜ (n ≤ length (now marks)) × (from + n ≤ 16777216) ⌝ }
     ensures { λ _. ⌜ Noting (entriesFrom (now (image .entry)) m page at k) [] from n (now (marks .entry)) (now (marks .exit)) ⌝ }
     ensures { λ _. ⌜ length (now (marks .exit)) ≡ length (now (marks .entry)) ⌝ }
+    ensures { λ r. ⌜ (r ≡ false → (i w : ℕ) → Has (entriesFrom (now (image .entry)) m page at k) i w → i < from + n) ⌝ }
 {
     let q = pages::page_of(image, m, page);
-    let mut e = at;
-    let mut left = k;
-    while left > 0 {
-        let x = blocks::entry_on(image, m, q, e);
-        marks::mark(marks, from, n, x);
-        e += 2;
-        left -= 1;
+    if is_whole(q) {
+        if q.at + 4096 <= from {
+            return false;
+        }
+        if from + n <= q.at {
+            return true;
+        }
     }
+    mark_each(image, m, q, at, k, from, n, marks)
 }
 
-// Marks all words ahead of s that start in the n places from `from` on: the walk stops where all that is ahead starts past them.
-pub fn fill(image: &[u8], v: usize, s: Spot, from: usize, n: usize, marks: &mut [u8])
+// The spot s, unless something that is passed before it starts too late.
+fn follow(late: bool, kept: Spot, s: Spot) -> Spot
+    ensures { λ r. ⌜ (late ≡ true → r ≡ kept) × (late ≡ false → r ≡ s) ⌝ }
+{
+    if late {
+        return kept;
+    }
+    s
+}
+
+// Marks all words ahead of s that start in the n places from `from` on: the walk stops where all that is ahead starts past them. Gives the
+// spot up to which all that is passed starts before the last of these places or in it.
+pub fn fill(image: &[u8], v: usize, s: Spot, from: usize, n: usize, marks: &mut [u8]) -> Spot
     requires { ⌜ (v ≤ length (now image)) × (length (now image) ≤ 16777216) × Valid (now image) v s × Telling (ahead (now image) v s) ⌝ }
     requires { ⌜ (from + n ≤ 16777216) × (n ≤ length (now marks)) × ((i : ℕ) → i < n → getD (now marks) i 0 ≡ 0) ⌝ }
     ensures { λ _. ⌜ Filled (ahead (now (image .entry)) v s) from n (now (marks .exit)) ⌝ }
     ensures { λ _. ⌜ length (now (marks .exit)) ≡ length (now (marks .entry)) ⌝ }
+    ensures { λ r. ⌜ Passed (now (image .entry)) v s (from + n) r ⌝ }
 {
     let to = from + n;
     let mut spot = s;
+    let mut kept = s;
+    let mut late = false;
     loop {
         if to <= low_of(spot) {
-            return;
+            return kept;
         }
         let t = whole::step(image, v, spot);
         let x = t.item;
         let next = t.next;
         if x.kind == 0 {
-            return;
+            return kept;
         }
+        let first = is_new(x, to);
         marks::mark(marks, from, n, x);
         let k = whole::entries(next);
         let m = next.m;
         let c = next.c;
-        mark_entries(image, m, c.page, c.at, k, from, n, marks);
+        let others = mark_entries(image, m, c.page, c.at, k, from, n, marks);
         spot = whole::past(next, k);
+        late = either(late, either(first, others));
+        kept = follow(late, kept, spot);
     }
 }

@@ -1,6 +1,6 @@
 -- What one mark more means.
 -- Assumes nothing.
-use Prim.Native.Nat.{ℕ, zero, suc, _+_, _≤_, _<_}
+use Prim.Native.Nat.{ℕ, zero, suc, _+_, _-_, _≤_, _<_}
 use mathlib.Core.Bool.{Bool, true, false}
 use mathlib.Core.List.{List, [], _∷_, _++_}
 use mathlib.Core.Logic.{_⊎_, inl, inr}
@@ -16,11 +16,10 @@ use Rattle.items.specs.declared.Item.{Item}
 use Rattle.items.specs.Items.{word, each, apart}
 use Rattle.items.specs.ItemsLaws.{each-none, each-so, each-more, each-last}
 use Rattle.sound.specs.Rules.{patchFrom}
-use Rattle.paint.specs.Marks.{has, apartAt, free, calm, Mark, Marks, Cleared, Struck, Painting, Painted}
+use Rattle.strokes.specs.Strokes.{Struck, Painting, Painted}
+use Rattle.strokes.specs.StrokesLaws.{false-true}
+use Rattle.paint.specs.Marks.{has, apartAt, free, calm, Mark, Marks, Cleared}
 use Rattle.paint.specs.Marks.{StruckIn, PaintedIn, Clipped, Added}
-
-pub false-true : {P : Type 0} → false ≡ true → P
-false-true e = absurd (let z : _≡_ {A = ℕ} 0 1 = cc in omega arith)
 
 pub each-all : (p : Item → Fact) (l : List Item) → ((x : Item) → Holds (p x)) → Holds (each p l)
 unfolding each
@@ -113,50 +112,6 @@ module _ (l : List Item) (x : Item) (k m : ℕ) (is : Mark l k m) where
       go y (inr (inr n)) = inr n
 
 -- ---- a range
-
-pub painting-start : (ms : List ℕ) (a limit mark : ℕ) → Painting ms ms a a limit mark
-painting-start ms a limit mark =
-    record {
-      up = omega arith;
-      long = refl;
-      met = λ i g h. absurd (omega arith);
-      done = λ i g h. absurd (omega arith);
-      below = λ i h. refl;
-      above = λ i h. refl;
-    }
-
-pub painting-next : (ms ns os : List ℕ) (a j limit mark : ℕ) → Painting ms ns a j limit mark → j < length ns → getD ns j 0 ≤ limit
-    → os ≡ set ns j mark → Painting ms os a (j + 1) limit mark
-painting-next ms ns os a j limit mark p within low e =
-    rw e
-    (record {
-      up = omega (arith, p .up);
-      long = simp length-set (p .long);
-      met = λ i g h. elim (decLt i j) [ yes l ↦ p .met i g l | no l ↦ omega (arith, same i h l, p .above j (omega arith)) ];
-      done = λ i g h.
-          elim (decLt i j) [
-            | yes l ↦ getD-set-other ns j i mark 0 (omega arith) ∙ p .done i g l
-            | no l ↦ let z : i ≡ j = omega arith in rw z (getD-set-same ns j mark 0 within)
-          ];
-      below = λ i h. getD-set-other ns j i mark 0 (omega (arith, p .up)) ∙ p .below i h;
-      above = λ i h. getD-set-other ns j i mark 0 (omega arith) ∙ p .above i (omega arith);
-    })
-  where
-    same : (i : ℕ) → i < j + 1 → (i < j → ⊥) → getD ms i 0 ≡ getD ms j 0
-    same i h l = let z : i ≡ j = omega arith in rw z
-
-pub painted-all : (ms ns : List ℕ) (a j e limit mark : ℕ) → Painting ms ns a j limit mark → j ≡ e → Painted ms ns a e limit mark true
-painted-all ms ns a j e limit mark p same =
-    record { long = p .long; all = λ t. rw same at p; bad = λ f. false-true (sym f) }
-
-pub painted-not : (ms ns : List ℕ) (a j e limit mark : ℕ) → Painting ms ns a j limit mark → j < e → limit < getD ns j 0
-    → Painted ms ns a e limit mark false
-painted-not ms ns a j e limit mark p within over =
-    record {
-      long = p .long;
-      all = λ f. false-true f;
-      bad = λ t. record { at = j; low = p .up; high = within; over = omega (arith, p .above j (omega arith)) };
-    }
 
 pub cleared-next : (ms ns os : List ℕ) (j : ℕ) → Cleared ms ns j → j < length ns → os ≡ set ns j 0 → Cleared ms os (j + 1)
 cleared-next ms ns os j p more e =
@@ -313,3 +268,14 @@ patch-marked xs t i p w ms ns r marks is done =
     let e : 0 + i ≡ i = omega arith in
     rw (add-one i, patch-more xs t 0 i, e, ← is)
     (worded-in ms ns w 2 (word p 4) (patchFrom xs t 0 i) (never-struck ms ns w p (p + 4) 2 r (patchFrom xs t 0 i) marks done) refl marks)
+
+-- ---- a word that lies whole in the window
+
+clipped-in : (k w a : ℕ) → k ≡ w + a → a ≤ 65536 → Clipped k w a
+clipped-in k w a e h = record { small = h; below = λ j l. omega arith; above = λ j l g. omega arith }
+
+pub painted-whole : (ms ns : List ℕ) (w at len k : ℕ) (r : Bool) → w ≤ at → at - w + k ≤ 65536 → len ≡ k
+    → Painted ms ns (at - w) (at - w + k) 0 2 r → PaintedIn ms ns w at (at + len) 0 2 r
+painted-whole ms ns w at len k r low high e p =
+    painted-in ms ns w at (at + len) 0 2 (at - w) (at - w + k) r (clipped-in at w (at - w) (omega arith) (omega arith))
+    (clipped-in (at + len) w (at - w + k) (omega arith) high) p

@@ -5,67 +5,7 @@ ghost use mathlib.Core.List.{[]};
 ghost use Prim.Native.Nat.{ℕ, _+_, _≤_, _<_};
 ghost use lib.ListN.{length, getD};
 ghost use Rattle.sound.specs.Rules.{patchItems};
-ghost use Rattle.paint.specs.Marks.{Eight, Painted, PaintedIn, Clipped, Added, Marks, Patch};
-
-// Marks the 4 bytes at a, unless one of them is marked.
-fn paint4(marks: &mut [u8], a: usize) -> bool
-    requires { ⌜ a + 4 ≤ length (now marks) ⌝ }
-    ensures { λ r. ⌜ Painted (now (marks .entry)) (now (marks .exit)) a (a + 4) 0 2 r ⌝ }
-{
-    if words::le32(marks, a) != 0 {
-        return false;
-    }
-    words::put32(marks, a, 0x02020202);
-    true
-}
-
-// Marks the 8 bytes at a, unless one of them is marked.
-fn paint8(marks: &mut [u8], a: usize) -> bool
-    requires { ⌜ a + 8 ≤ length (now marks) ⌝ }
-    ensures { λ r. ⌜ Painted (now (marks .entry)) (now (marks .exit)) a (a + 8) 0 2 r ⌝ }
-{
-    if words::le64(marks, a) != 0 {
-        return false;
-    }
-    words::put64(marks, a, 0x0202020202020202);
-    true
-}
-
-// Marks the 8 bytes at j by those of v, if they end by e and none of them is marked.
-fn eight(marks: &mut [u8], j: usize, e: usize, v: u64) -> bool
-    requires { ⌜ (j ≤ e) × (e ≤ length (now marks)) ⌝ }
-    ensures { λ r. ⌜ Eight (now (marks .entry)) (now (marks .exit)) j e v r ⌝ }
-{
-    if e - j < 8 {
-        return false;
-    }
-    if words::le64(marks, j) != 0 {
-        return false;
-    }
-    words::put64(marks, j, v);
-    true
-}
-
-// Marks a..e, unless one of them is marked past the limit.
-fn paint(marks: &mut [u8], a: usize, e: usize, limit: u8, mark: u8) -> bool
-    requires { ⌜ (a ≤ e) × (e ≤ length (now marks)) × (1 ≤ mark) × (mark ≤ 2) ⌝ }
-    ensures { λ r. ⌜ Painted (now (marks .entry)) (now (marks .exit)) a e limit mark r ⌝ }
-{
-    let v = mark as u64 * 0x0101010101010101;
-    let mut j = a;
-    while j < e {
-        if eight(marks, j, e, v) {
-            j += 8;
-            continue;
-        }
-        if limit < marks[j] {
-            return false;
-        }
-        marks[j] = mark;
-        j += 1;
-    }
-    true
-}
+ghost use Rattle.paint.specs.Marks.{PaintedIn, Clipped, Added, Marks, Patch};
 
 // Where k lies from w on, at most a window's length.
 fn clip(k: usize, w: usize) -> usize
@@ -87,7 +27,7 @@ fn paint_in(marks: &mut [u8], w: usize, at: usize, end: usize, limit: u8, mark: 
 {
     let a = clip(at, w);
     let e = clip(end, w);
-    paint(marks, a, e, limit, mark)
+    strokes::paint(marks, a, e, limit, mark)
 }
 
 // Marks a word where nothing is: in one go where it lies whole in the window.
@@ -100,10 +40,10 @@ fn mark_word(marks: &mut [u8], w: usize, at: usize, len: usize) -> bool
         let a = at - w;
         if a <= 65528 {
             if len == 4 {
-                return paint4(marks, a);
+                return strokes::paint4(marks, a);
             }
             if len == 8 {
-                return paint8(marks, a);
+                return strokes::paint8(marks, a);
             }
         }
     }
@@ -121,7 +61,8 @@ pub fn mark_item(marks: &mut [u8], w: usize, x: Item) -> bool
     paint_in(marks, w, x.at, x.at + x.len, 1, 1)
 }
 
-fn clear_marks(marks: &mut [u8])
+// No mark is left.
+pub fn clear_marks(marks: &mut [u8])
     ensures { λ _. ⌜ length (now (marks .exit)) ≡ length (now (marks .entry)) ⌝ }
     ensures { λ _. ⌜ ((j : ℕ) → j < length (now (marks .entry)) → getD (now (marks .exit)) j 0 ≡ 0) ⌝ }
 {
@@ -133,7 +74,7 @@ fn clear_marks(marks: &mut [u8])
 }
 
 // Marks the patch words, which other rules keep apart from each other.
-fn mark_patch(image: &[u8], t: usize, n: usize, marks: &mut [u8], w: usize)
+pub fn mark_patch(image: &[u8], t: usize, n: usize, marks: &mut [u8], w: usize)
     requires { ⌜ Patch (now image) t n × Marks [] w (now marks) ⌝ }
     ensures { λ _. ⌜ Marks (patchItems (now (image .entry)) t n) w (now (marks .exit)) ⌝ }
 {
@@ -143,13 +84,4 @@ fn mark_patch(image: &[u8], t: usize, n: usize, marks: &mut [u8], w: usize)
         paint_in(marks, w, p, p + 4, 2, 2);
         i += 1;
     }
-}
-
-// A new window at w: the patch words alone are marked.
-pub fn renew(image: &[u8], t: usize, n: usize, marks: &mut [u8], w: usize)
-    requires { ⌜ Patch (now image) t n × (length (now marks) ≡ 65536) ⌝ }
-    ensures { λ _. ⌜ Marks (patchItems (now (image .entry)) t n) w (now (marks .exit)) ⌝ }
-{
-    clear_marks(marks);
-    mark_patch(image, t, n, marks, w);
 }

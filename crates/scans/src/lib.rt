@@ -1,10 +1,12 @@
 // Rules 12 to 14 of document 01 and 22 of document 02 over all entries: the first that is refused, and the first whose word isn't clear.
+ghost use mathlib.Core.Bool.{true};
 ghost use mathlib.Core.Path.{_≡_};
 ghost use Prim.Native.Nat.{ℕ, _+_, _*_, _≤_, _<_};
 ghost use lib.ListN.{length};
-ghost use Rattle.facts.specs.Fact.{Tells};
+ghost use Rattle.facts.specs.Fact.{Holds, Tells, every};
 ghost use Rattle.facts.specs.First.{firstFault};
 ghost use Rattle.table.specs.Passes.{place, unrefused, outside, apart, clear};
+ghost use Rattle.ranks.specs.Ranks.{allApart};
 
 // The first of n entries that is refused with this number, or n.
 pub fn first_refused(image: &[u8], t: usize, n: usize, number: u32) -> usize
@@ -75,12 +77,56 @@ fn skipped(a: usize, high: usize, i: usize) -> usize
     i
 }
 
-// Rule 14, where 12, 22 and 13 are passed: the first of n entries whose word isn't clear, or n. Only a word that starts below the highest
-// end so far is held against each before it, so that entries in ascending order take no scan.
-pub fn first_overlap(image: &[u8], t: usize, n: usize, c: usize, z: usize) -> usize
+// Whether each of n words lies at or above E and outside the configuration region.
+fn all_outside(image: &[u8], t: usize, n: usize, E: usize, c: usize, z: usize) -> bool
     requires { ⌜ (t + 4 * n ≤ length (now image)) × (c + z ≤ length (now image)) × ((i : ℕ) → i < n → place (now image) t i .number ≡ 0) ⌝ }
+    ensures { λ r. ⌜ Tells r (every n (λ i. outside (place (now (image .entry)) t i .at) E c z)) ⌝ }
+{
+    let mut i = 0;
+    while i < n {
+        if !is_outside(table::spot_at(image, t, i), E, c, z) {
+            return false;
+        }
+        i += 1;
+    }
+    true
+}
+
+// Whether no two of n words share a byte, by their places in order.
+fn all_apart(image: &[u8], t: usize, n: usize) -> bool
+    requires { ⌜ (t + 4 * n ≤ length (now image)) × (length (now image) ≤ 16777216) × (n ≤ 1024)
+        × ((i : ℕ) → i < n → place (now image) t i .number ≡ 0) ⌝ }
+    ensures { λ r. ⌜ Tells r (allApart (now (image .entry)) t n) ⌝ }
+{
+    let mut list = [0u32; 1024];
+    ranks::rank(image, t, n, &mut list)
+}
+
+// Whether all of more than 16 words are clear; few are sooner held against each other than put in order.
+fn all_clear(image: &[u8], t: usize, n: usize, c: usize, z: usize) -> bool
+    requires { ⌜ (t + 4 * n ≤ length (now image)) × (c + z ≤ length (now image)) × ((i : ℕ) → i < n → place (now image) t i .number ≡ 0)
+        × (length (now image) ≤ 16777216) × (n ≤ 1024) ⌝ }
+    ensures { λ r. ⌜ (r ≡ true → (i : ℕ) → i < n → Holds (clear (now (image .entry)) t (t + 4 * n) c z i)) ⌝ }
+{
+    if n <= 16 {
+        return false;
+    }
+    if !all_outside(image, t, n, t + 4 * n, c, z) {
+        return false;
+    }
+    all_apart(image, t, n)
+}
+
+// Rule 14, where 12, 22 and 13 are passed: the first of n entries whose word isn't clear, or n. Where not all are, the scan finds it: only a
+// word that starts below the highest end so far is held against each before it.
+pub fn first_overlap(image: &[u8], t: usize, n: usize, c: usize, z: usize) -> usize
+    requires { ⌜ (t + 4 * n ≤ length (now image)) × (c + z ≤ length (now image)) × ((i : ℕ) → i < n → place (now image) t i .number ≡ 0)
+        × (length (now image) ≤ 16777216) × (n ≤ 1024) ⌝ }
     ensures { λ r. ⌜ r ≡ firstFault (clear (now (image .entry)) t (t + 4 * n) c z) n ⌝ }
 {
+    if all_clear(image, t, n, c, z) {
+        return n;
+    }
     let E = t + 4 * n;
     let mut i = 0;
     let mut high = 0;

@@ -10,7 +10,7 @@ use native.Mathlib.Decide.{ℕ-discrete}
 use Rattle.facts.specs.Fact.{Fact, Holds, test, Says, says, Tells}
 use Rattle.items.specs.declared.Item.{Item}
 use Rattle.items.specs.Items.{each}
-use Rattle.items.specs.ItemsLaws.{each-none, each-so, each-more, each-last}
+use Rattle.items.specs.ItemsLaws.{each-none, each-so, each-join, each-fork, each-more, each-last}
 use Rattle.items.specs.Judged.{sound, placed, known}
 use Rattle.front.specs.declared.Front.{Front}
 use Rattle.front.specs.FrontsLaws.{fronts-none, fronts-join}
@@ -44,6 +44,10 @@ tells-more p l x r u t e = rw e (record { says = go r (test (p x)) (t .says) (sa
     go true true h k = each-more p l x h k
     go true false h k = λ a. k (each-last p l x a .1)
     go false b h k = λ a. h (each-last p l x a .0)
+
+-- some more of which the check holds
+pub tells-join : (p : Item → Fact) (l k : List Item) {r : Bool} → Tells r (each p l) → Holds (each p k) → Tells r (each p (l ++ k))
+tells-join p l k t h = tells-as t (λ a. each-join p l k a h) (λ a. each-fork p l k a .0)
 
 pub judges-none : (E c z : ℕ) (r : Judged) → r .whole ≡ true → r .placed ≡ true → r .known ≡ true → Judges (r .front) [] E c z r
 judges-none E c z r a b d =

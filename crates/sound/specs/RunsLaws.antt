@@ -1,4 +1,4 @@
--- What a run of entries comes to, and how a block's entries are cut in two.
+-- What the words of a page that are passed come to, and how a block's entries are cut in two.
 -- Assumes nothing.
 use Prim.Native.Nat.{ℕ, zero, suc, _+_, _*_, _/_, _%_, _≤_, _<_}
 use mathlib.Core.Bool.{Bool, _&&_, and-true}
@@ -6,26 +6,27 @@ use mathlib.Core.List.{List, [], _∷_, _++_, append-assoc, append-nil}
 use mathlib.Core.Logic.{inl, inr}
 use mathlib.Core.Path.{_≡_, refl, sym, ap, _∙_}
 use native.Mathlib.Omega.{arith}
-use native.Mathlib.Decide.{ℕ-discrete}
-use borrow.Author.Tests.{eq-eqb, ne-eqb}
 use Rattle.facts.specs.Fact.{Fact, Holds, test, passes}
 use Rattle.words.specs.Le.{le}
 use Rattle.items.specs.declared.Item.{Item}
-use Rattle.items.specs.Items.{word}
-use Rattle.items.specs.ItemsLaws.{each-so}
+use Rattle.items.specs.Items.{word, each, apart, apartFrom}
+use Rattle.items.specs.ItemsLaws.{each-none, each-so, each-join, each-more, apart-join}
 use Rattle.items.specs.Judged.{off, sound, placed, known}
 use Rattle.rows.specs.declared.Module.{Module}
 use Rattle.front.specs.declared.Front.{Front}
-use Rattle.front.specs.Fronts.{Fronts}
-use Rattle.front.specs.FrontsLaws.{in-gap, unknown}
+use Rattle.front.specs.Fronts.{aside, Fronts}
+use Rattle.front.specs.FrontsLaws.{unknown, fronts-join}
 use Rattle.pages.specs.declared.Page.{Page}
 use Rattle.pages.specs.Pages.{Paged}
+use Rattle.runs.specs.Runs.{widthOf, entry, InRoom, AnyIn, Lain}
+use Rattle.runs.specs.RunsLaws.{width-most}
 use Rattle.blocks.specs.Blocks.{itemOf, entriesFrom}
-use Rattle.blocks.specs.BlocksPaged.{four-on, eight-on}
+use Rattle.blocks.specs.BlocksLaws.{entries-more}
+use Rattle.blocks.specs.BlocksPaged.{item-on}
 use Rattle.sound.specs.declared.Judged.{Judged}
 use Rattle.sound.specs.Judges.{endsBy, JudgesOn, Noted}
-use Rattle.sound.specs.JudgesLaws.{ends-by, on-none, on-more, higher}
-use Rattle.sound.specs.Runs.{widthOf, endOf, InGap, Ran, InRoom, AnyIn, clearPage, Later, Astray, AstrayBy}
+use Rattle.sound.specs.JudgesLaws.{ends-by, on-none, on-more, higher, tells-join}
+use Rattle.sound.specs.Runs.{clearPage, Later, Astray, AstrayBy}
 
 pub on-join : (a b : List Item) (E c z : ℕ) (r s u : Judged) → JudgesOn a E c z r s → JudgesOn b E c z s u → JudgesOn (a ++ b) E c z r u
 on-join a b E c z r s u f g start l j = rw (append-assoc l a b) at (g start (l ++ a) (f start l j))
@@ -42,138 +43,112 @@ entries-cut xs m page at (suc i) k =
     let z : suc i + k ≡ suc (i + k) = omega arith in
     rw (e, z) (ap (λ (l : List Item). itemOf xs m page (le 2 xs at) ∷ l) (entries-cut xs m page (at + 2) i k))
 
-pub width-four : (e : ℕ) → e / 4096 ≡ 3 → widthOf e ≡ 4
-unfolding widthOf
-width-four e t = rw (eq-eqb (e / 4096) 3 t)
+entries-none : (xs : List ℕ) (m : Module) (page at : ℕ) → entriesFrom xs m page at 0 ≡ []
+unfolding entriesFrom
+entries-none xs m page at = refl
 
-pub width-eight : (e : ℕ) → e / 4096 ≡ 10 → widthOf e ≡ 8
-unfolding widthOf
-width-eight e t = rw (ne-eqb (e / 4096) 3 (λ z. omega arith), eq-eqb (e / 4096) 10 t)
+apart-none : (before : List Item) → Holds (apartFrom before [])
+unfolding apartFrom
+apart-none before = omega arith
 
-pub width-none : (e : ℕ) → (e / 4096 ≡ 3 → ⊥) → (e / 4096 ≡ 10 → ⊥) → widthOf e ≡ 0
-unfolding widthOf
-width-none e a b = rw (ne-eqb (e / 4096) 3 a, ne-eqb (e / 4096) 10 b)
-
-width-most : (e : ℕ) → widthOf e ≤ 8
-width-most e =
-    elim (ℕ-discrete (e / 4096) 3) [
-      | yes t ↦ omega (arith, width-four e t)
-      | no t ↦ elim (ℕ-discrete (e / 4096) 10) [
-        | yes s ↦ omega (arith, width-eight e s)
-        | no s ↦ omega (arith, width-none e t s)
-      ]
-    ]
-
--- one entry more
-pub ran-more : (xs : List ℕ) (q : Page) (high at k low mid : ℕ) → Ran xs q high at k low mid → InGap q mid high (le 2 xs (at + 2 * k))
-    → Ran xs q high at (suc k) low (endOf q (le 2 xs (at + 2 * k)))
-unfolding Ran
-ran-more xs q high at zero low mid e n =
-    let z : at + 2 * 0 ≡ at = omega arith in
-    let n′ = rw (z, e) at n in
-    (n′, rw z)
-ran-more xs q high at (suc k) low mid r n =
-    let z : at + 2 * suc k ≡ at + 2 + 2 * k = omega arith in
-    let n′ = rw z at n in
-    (r .0, rw z (ran-more xs q high (at + 2) k (endOf q (le 2 xs at)) mid (r .1) n′))
-
--- an end is no lower than where the run starts
-ran-up : (xs : List ℕ) (q : Page) (high at k low end : ℕ) → Ran xs q high at k low end → low ≤ end
-unfolding Ran
-ran-up xs q high at zero low end e = omega arith
-ran-up xs q high at (suc k) low end r =
-    let n = r .0 in omega (arith, n .1, ran-up xs q high (at + 2) k (endOf q (le 2 xs at)) end (r .1))
+apart-one : (before : List Item) (x : Item) → Holds (each (apart x) before) → Holds (apartFrom before (x ∷ []))
+unfolding apartFrom
+apart-one before x h = (h, omega arith)
 
 module _ (xs : List ℕ) (m : Module) (q : Page) (paged : Paged xs m (q .page) q) (E c z : ℕ) (free : Holds (clearPage q E c z)) where
-  item-on : (e : ℕ) → InRoom q e → itemOf xs m (q .page) e ≡ word (q .at + e % 4096) (widthOf e)
-  item-on e n =
-      elim (ℕ-discrete (e / 4096) 3) [
-        | yes t ↦
-            let w = width-four e t in
-            rw w (four-on xs m (q .page) q paged e t (n .1) (omega (arith, n .2)))
-        | no t ↦ elim (ℕ-discrete (e / 4096) 10) [
-          | yes s ↦
-              let w = width-eight e s in
-              rw w (eight-on xs m (q .page) q paged e s (n .1) (omega (arith, n .2)))
-          | no s ↦ absurd (omega (arith, n .0, width-none e t s))
-        ]
-      ]
-
-  clear : (e : ℕ) → Holds (off c z (word (q .at + e % 4096) (widthOf e)))
-  clear e = go (free .1)
-    where
-      go : Holds (off c z (word (q .at) 4104)) → Holds (off c z (word (q .at + e % 4096) (widthOf e)))
-      go (inl h) = inl (omega (arith, width-most e))
-      go (inr h) = inr (omega arith)
-
-  -- r with its frontier's low end at `end`
-  abbrev moved : Judged → ℕ → ℕ → Judged
-  moved r top end = record {
-    whole = r .whole;
-    placed = r .placed;
-    known = r .known;
-    top = top;
-    front = record { low = end; high = r .front .high; top = r .front .top };
-  }
+  clear : (e : ℕ) → q .floor ≤ e % 4096 → Holds (off c z (word (q .at + e % 4096) (widthOf e)))
+  clear e up = elim (free .1 .1) [ inl h ↦ inl (omega (arith, width-most e)) | inr h ↦ inr (omega arith) ]
 
   holding : (a : Bool) (p : Fact) → Holds p → a ≡ (a && test p)
   holding a p h = rw (passes p h) (sym (and-true a))
 
-  -- one word of the run
-  noted : (r : Judged) (top e : ℕ) → InGap q (r .front .low) (r .front .high) e → r .top ≤ top → endOf q e ≤ top
-      → Noted E c z r (word (q .at + e % 4096) (widthOf e)) (moved r top (endOf q e))
-  noted r top e n h own =
-      let x = word (q .at + e % 4096) (widthOf e) in
+  -- ---- words in the gap
+
+  -- the item of an entry that is a word of the page
+  abbrev itemAt : ℕ → Item
+  itemAt e = word (q .at + e % 4096) (widthOf e)
+
+  each-on : (p : Item → Fact) (at k : ℕ) → ((i : ℕ) → i < k → InRoom q (entry xs at i) × Holds (p (itemAt (entry xs at i))))
+      → Holds (each p (entriesFrom xs m (q .page) at k))
+  unfolding entriesFrom
+  each-on p at zero f = each-none p
+  each-on p at (suc k) f =
+      let (room, own) = f k (omega arith) in
+      let x : Holds (p (itemOf xs m (q .page) (entry xs at k))) = rw (item-on xs m (q .page) q paged (entry xs at k) room) own in
+      rw (entries-more xs m (q .page) at k) (each-more p (entriesFrom xs m (q .page) at k) _ (each-on p at k (λ i h. f i (omega arith))) x)
+
+  module _ (f : Front) (at k end : ℕ) (n : Lain xs q (f .low) (f .high) at k end) where
+    -- each is apart from whatever the frontier bounds
+    far : (i : ℕ) → i < k → (p : Item) → Holds (aside f p) → Holds (apart (itemAt (entry xs at i)) p)
+    far i h p (inl b) = inr (inr (omega (arith, n .each i h .0 .1)))
+    far i h p (inr b) = inr (inl (omega (arith, n .each i h .0 .2)))
+
+    -- and from those before it
+    near : (i : ℕ) → i < k → (j : ℕ) → j < i → Holds (apart (itemAt (entry xs at i)) (itemAt (entry xs at j)))
+    near i h j g = elim (n .beside i h j g) [ inl b ↦ inr (inl (omega arith)) | inr b ↦ inr (inr (omega arith)) ]
+
+    apart-on : (before : List Item) → Holds (each (aside f) before) → (i : ℕ) → i ≤ k
+        → Holds (apartFrom before (entriesFrom xs m (q .page) at i))
+    apart-on before b zero h = rw (entries-none xs m (q .page) at) (apart-none before)
+    apart-on before b (suc i) h =
+        let l = entriesFrom xs m (q .page) at i in
+        let x = itemAt (entry xs at i) in
+        let is = item-on xs m (q .page) q paged (entry xs at i) (n .each i h .0 .0) in
+        let own = each-so (aside f) (apart x) before (far i h) b in
+        let others = each-on (apart x) at i (λ j g. (n .each j (omega arith) .0 .0, near i h j g)) in
+        rw (entries-more xs m (q .page) at i, is)
+        (apart-join before l (x ∷ []) (apart-on before b i (omega arith))
+        (apart-one (before ++ l) x (each-join (apart x) before l own others)))
+
+    gap-front : Fronts f (entriesFrom xs m (q .page) at k) (record { low = end; high = f .high; top = f .top })
+    gap-front = record {
+      kept = λ o. o;
+      apart = λ o before b. (
+        apart-on before (b .all) k (omega arith),
+        record {
+          low = n .most (b .low);
+          high = b .high;
+          all = each-join (aside u) before (entriesFrom xs m (q .page) at k) (each-so (aside f) (aside u) before still (b .all))
+              (each-on (aside u) at k (λ i h. (n .each i h .0 .0, inl (omega (arith, n .each i h .1)))));
+        },
+      );
+    }
+      where
+        u : Front
+        u = record { low = end; high = f .high; top = f .top }
+
+        still : (p : Item) → Holds (aside f p) → Holds (aside u p)
+        still p (inl h) = inl (omega (arith, n .up))
+        still p (inr h) = inr h
+
+  -- words in the gap judge their entries
+  pub gap-on : (at k end : ℕ) (r u : Judged) → Lain xs q (r .front .low) (r .front .high) at k end → Later r end u
+      → JudgesOn (entriesFrom xs m (q .page) at k) E c z r u
+  gap-on at k end r u n later start l j =
+      let items = entriesFrom xs m (q .page) at k in
+      let all : (p : Item → Fact) → ((i : ℕ) → i < k → Holds (p (itemAt (entry xs at i)))) → Holds (each p items) =
+      λ p f. each-on p at k (λ i h. (n .each i h .0 .0, f i h)) in
       record {
-        whole = holding (r .whole) (sound c z x) ((λ k. omega arith), inr (clear e));
-        placed = holding (r .placed) (placed E c z x) ((λ k. omega arith), inr (omega (arith, free .0), clear e));
-        known = holding (r .known) (known x) (λ k. omega arith);
-        higher = h;
-        own = ends-by x top (λ k. own);
-        front = in-gap (r .front) x (n .1) (n .2);
+        whole = rw (later .whole) (tells-join (sound c z) l items (j .whole) (all (sound c z) (λ i h. ((λ e. omega arith), inr (clear (entry xs at i) (n .each i h .0 .0 .1))))));
+        placed = rw (later .placed) (tells-join (placed E c z) l items (j .placed)
+            (all (placed E c z)
+            (λ i h. let up = n .each i h .0 .0 .1 in ((λ e. omega arith), inr (omega (arith, free .1 .0), clear (entry xs at i) up)))));
+        known = rw (later .known) (tells-join known l items (j .known) (all known (λ i h e. omega arith)));
+        top = each-join (endsBy (u .top)) l items
+            (each-so (endsBy (r .top)) (endsBy (u .top)) l (higher (r .top) (u .top) (later .higher)) (j .top))
+            (all (endsBy (u .top)) (λ i h. inr (omega (arith, n .each i h .1, later .own))));
+        front = rw (later .front) (fronts-join start (r .front) _ l items (j .front) (gap-front (r .front) at k end n));
       }
 
-  none : (r u : Judged) → Later r (r .front .low) u → JudgesOn [] E c z r u
-  none r u n start l j =
-      rw (append-nil l) (record {
-        whole = rw (n .whole) (j .whole);
-        placed = rw (n .placed) (j .placed);
-        known = rw (n .known) (j .known);
-        top = each-so (endsBy (r .top)) (endsBy (u .top)) l (higher (r .top) (u .top) (n .higher)) (j .top);
-        front = rw (n .front) (j .front);
-      })
-
-  -- a run judges its entries
-  pub ran-on : (high at k low end : ℕ) (r u : Judged) → Ran xs q high at k low end → r .front .low ≡ low → r .front .high ≡ high
-      → Later r end u → JudgesOn (entriesFrom xs m (q .page) at k) E c z r u
-  unfolding Ran entriesFrom
-  ran-on high at zero low end r u e a b n = none r u (rw (e ∙ sym a) at n)
-  ran-on high at (suc k) low end r u (g, rest) a b n =
-      let e = le 2 xs at in
-      let x = word (q .at + e % 4096) (widthOf e) in
-      let s = moved r (u .top) (endOf q e) in
-      let is = item-on e (g .0, g .4, omega (arith, g .3)) in
-      let g′ = rw (← a, ← b) at g in
-      let up = ran-up xs q high (at + 2) k (endOf q e) end rest in
-      let first = on-more [] E c z r r s x (on-none E c z r) (noted r (u .top) e g′ (n .higher) (omega (arith, up, n .own))) in
-      let after : Later s end u = record {
-        whole = n .whole;
-        placed = n .placed;
-        known = n .known;
-        higher = omega arith;
-        own = n .own;
-        front = n .front;
-      } in
-      rw is (on-join (x ∷ []) (entriesFrom xs m (q .page) (at + 2) k) E c z r s u first
-      (ran-on high (at + 2) k (endOf q e) end s u rest refl b after))
+  -- ---- words anywhere in the page
 
   -- one word, wherever it stands in the page
-  strayed : (r u : Judged) (e : ℕ) → Astray q r u → Noted E c z r (word (q .at + e % 4096) (widthOf e)) u
-  strayed r u e n =
+  strayed : (r u : Judged) (e : ℕ) → q .floor ≤ e % 4096 → Astray q r u → Noted E c z r (word (q .at + e % 4096) (widthOf e)) u
+  strayed r u e up n =
       let x = word (q .at + e % 4096) (widthOf e) in
       record {
-        whole = n .whole ∙ holding (r .whole) (sound c z x) ((λ k. omega arith), inr (clear e));
-        placed = n .placed ∙ holding (r .placed) (placed E c z x) ((λ k. omega arith), inr (omega (arith, free .0), clear e));
+        whole = n .whole ∙ holding (r .whole) (sound c z x) ((λ k. omega arith), inr (clear e up));
+        placed = n .placed ∙ holding (r .placed) (placed E c z x) ((λ k. omega arith), inr (omega (arith, free .1 .0), clear e up));
         known = n .known ∙ holding (r .known) (known x) (λ k. omega arith);
         higher = n .higher;
         own = ends-by x (u .top) (λ k. omega (arith, n .own, width-most e));
@@ -214,8 +189,9 @@ module _ (xs : List ℕ) (m : Module) (q : Page) (paged : Paged xs m (q .page) q
   any-on at (suc k) r u h n =
       let e = le 2 xs at in
       let x = word (q .at + e % 4096) (widthOf e) in
-      let is = item-on e (any-first at k h) in
-      let first = on-more [] E c z r r u x (on-none E c z r) (strayed r u e n) in
+      let room = any-first at k h in
+      let is = item-on xs m (q .page) q paged e room in
+      let first = on-more [] E c z r r u x (on-none E c z r) (strayed r u e (room .1) n) in
       rw is (on-join (x ∷ []) (entriesFrom xs m (q .page) (at + 2) k) E c z r u u first
       (any-on (at + 2) k u u (any-next at k h) (still r u n)))
 

@@ -17,7 +17,7 @@ ghost use Rattle.pages.specs.Pages.{Paged};
 ghost use Rattle.whole.specs.Whole.{walked};
 ghost use Rattle.whole.specs.Walkable.{Walkable};
 ghost use Rattle.sound.specs.Judges.{Judges, JudgesOn, Noted};
-ghost use Rattle.sound.specs.Runs.{widthOf, Ran, AnyIn, clearPage, Later, AstrayBy};
+ghost use Rattle.sound.specs.Runs.{clearPage, Later, AstrayBy};
 
 // Whether rule 25, 26 (but for apartness) and 27 is passed; the highest end of a word; and the frontier, which tells of apartness where all
 // comes in order.
@@ -27,12 +27,6 @@ pub struct Judged {
     pub known: bool,
     pub top: usize,
     pub front: Front,
-}
-
-// How many entries are passed in a run, and where the last of them ends.
-pub struct Passed {
-    pub count: usize,
-    pub low: usize,
 }
 
 fn is_off(x: Item, c: usize, z: usize) -> bool
@@ -167,20 +161,6 @@ fn judge_rest(
     r
 }
 
-// How many bytes the word of the entry e has, 0 where it names none.
-fn width(e: usize) -> usize
-    ensures { λ r. ⌜ (r ≡ widthOf e) × (r ≤ 8) ⌝ }
-{
-    let t = e / 4096;
-    if t == 3 {
-        return 4;
-    }
-    if t == 10 {
-        return 8;
-    }
-    0
-}
-
 fn upper(a: usize, b: usize) -> usize
     ensures { λ r. ⌜ (a ≤ r) × (b ≤ r) ⌝ }
 {
@@ -190,88 +170,28 @@ fn upper(a: usize, b: usize) -> usize
     a
 }
 
-fn lower(a: usize, b: usize) -> usize
-    ensures { λ r. ⌜ (r ≤ a) × (r ≤ b) ⌝ }
-{
-    if a <= b {
-        return a;
-    }
-    b
-}
-
-// How many of the k entries from `at` on are words in the page's room that come in order into low..high, which is nearly always all of them.
-fn run(image: &[u8], q: Page, at: usize, k: usize, low: usize, high: usize) -> Passed
-    requires { ⌜ (at + 2 * k ≤ length (now image)) × (q .at + q .room < 1099511627776) ⌝ }
-    ensures { λ r. ⌜ (r .count ≤ k) × Ran (now (image .entry)) q high at (r .count) low (r .low) ⌝ }
-{
-    let cap = lower(high, q.at + q.room);
-    let mut end = low;
-    let mut i = 0;
-    while i < k {
-        let e = words::le16(image, at + 2 * i);
-        let w = width(e);
-        let o = e % 4096;
-        let from = q.at + o;
-        if w == 0 {
-            return Passed { count: i, low: end };
-        }
-        if o < q.floor {
-            return Passed { count: i, low: end };
-        }
-        if from < end {
-            return Passed { count: i, low: end };
-        }
-        if cap < from + w {
-            return Passed { count: i, low: end };
-        }
-        end = from + w;
-        i += 1;
-    }
-    Passed { count: i, low: end }
-}
-
-// How many of the k entries from `at` on are words in the page's room, in whatever order.
-fn any(image: &[u8], q: Page, at: usize, k: usize) -> usize
-    requires { ⌜ at + 2 * k ≤ length (now image) ⌝ }
-    ensures { λ r. ⌜ (r ≤ k) × AnyIn (now (image .entry)) q at r ⌝ }
-{
-    let mut i = 0;
-    while i < k {
-        let e = words::le16(image, at + 2 * i);
-        let w = width(e);
-        let o = e % 4096;
-        if w == 0 {
-            return i;
-        }
-        if o < q.floor {
-            return i;
-        }
-        if q.room < o + w {
-            return i;
-        }
-        i += 1;
-    }
-    i
-}
-
-// Whether a word may stand wherever one can start in the page.
+// Whether a word may stand wherever one can start in the page, from its floor on.
 fn is_clear(q: Page, E: usize, c: usize, z: usize) -> bool
     requires { ⌜ (q .at < 1099511627776) × (c < 4294967296) × (z < 4294967296) ⌝ }
     ensures { λ r. ⌜ Tells r (clearPage q E c z) ⌝ }
 {
-    if q.at < E {
+    if 4096 < q.floor {
+        return false;
+    }
+    let from = q.at + q.floor;
+    if from < E {
         return false;
     }
     if q.at + 4104 <= c {
         return true;
     }
-    if c + z <= q.at {
+    if c + z <= from {
         return true;
     }
     false
 }
 
-// A run is passed that ends at `end`.
+// Words that lie in the gap are passed, which end by `end`.
 fn later(r: Judged, end: usize) -> Judged
     ensures { λ u. ⌜ Later r end u ⌝ }
 {
@@ -289,7 +209,7 @@ fn later(r: Judged, end: usize) -> Judged
     }
 }
 
-// Some words of the page are passed in no order, n of them: nothing is known of apartness any more, and they end by its last reach.
+// Some words of the page are passed that may lie anywhere, n of them: nothing is known of apartness any more, and they end by its last reach.
 fn astray(r: Judged, q: Page, n: usize) -> Judged
     requires { ⌜ q .at < 1099511627776 ⌝ }
     ensures { λ u. ⌜ AstrayBy q n r u ⌝ }
@@ -310,7 +230,7 @@ fn astray(r: Judged, q: Page, n: usize) -> Judged
     }
 }
 
-// The k entries from `at` on that a run leaves, on a clear page: words in no order, then entry by entry.
+// The k entries from `at` on that are left, on a clear page: words that may lie anywhere, then entry by entry.
 fn judge_unordered(
     image: &[u8],
     m: Module,
@@ -326,7 +246,7 @@ fn judge_unordered(
     requires { ⌜ Holds (clearPage q E c z) × (q .at < 1099511627776) ⌝ }
     ensures { λ r. ⌜ JudgesOn (entriesFrom (now (image .entry)) m (q .page) at k) E c z judged r ⌝ }
 {
-    let n = any(image, q, at, k);
+    let n = runs::any(image, q, at, k);
     let r = astray(judged, q, n);
     judge_rest(image, m, q, at + 2 * n, k - n, r, E, c, z)
 }
@@ -351,7 +271,7 @@ fn judge_entries(
         return judge_rest(image, m, q, at, k, judged, E, c, z);
     }
     let front = judged.front;
-    let passed = run(image, q, at, k, front.low, front.high);
+    let passed = runs::pass_words(image, q, at, k, front.low, front.high);
     let r = later(judged, passed.low);
     judge_unordered(
         image,

@@ -123,19 +123,15 @@ fn skip(a: &[u8], b: &[u8], from: usize, to: usize) -> usize
     skip_words(a, b, k, to)
 }
 
-// Whether a stretch of the usual length, 16 to 32 bytes, is the same in both; any other is left open.
+// Whether a stretch of the usual length, 4 to 32 bytes, is the same in both; any other is left open.
 pub fn is_same(a: &[u8], b: &[u8], from: usize, to: usize) -> bool
     requires { ⌜ (from ≤ to) × (to ≤ length (now a)) × (to ≤ length (now b)) ⌝ }
     ensures { λ t. ⌜ (t ≡ true → SameBytes (now (a .entry)) (now (b .entry)) from to) ⌝ }
 {
-    let n = to - from;
-    if n < 16 {
+    if to - from > 32 {
         return false;
     }
-    if n > 32 {
-        return false;
-    }
-    same_block(a, b, from, to)
+    same_short(a, b, from, to)
 }
 
 // The first position from `from` on and below `to` at which the two differ, or `to`.

@@ -110,10 +110,10 @@ module _ (xs : List ℕ) (r : Reading) (g : Guaranteed xs r) where
           | no l ↦ omega (arith, c .least j (omega arith) h past)
         ]
 
-    pub reach-module : w < first → Reach xs r at w m
+    reach-module : w < first → Reach xs r at w m
     reach-module h = record { most = c .most; past = c .past; word = c .word; least = least w (omega arith) (omega arith) }
 
-    pub reach-fixed : first ≤ w → Reach xs r at first 4
+    reach-fixed : first ≤ w → Reach xs r at first 4
     reach-fixed h =
         record {
           most = f .most;

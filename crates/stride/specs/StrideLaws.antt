@@ -1,8 +1,9 @@
 -- The reference byte by byte, as the walk meets it.
 -- Assumes nothing.
+use mathlib.Core.Bool.{Bool, true, false}
 use mathlib.Core.Path.{_≡_, sym, _∙_}
 use mathlib.Core.List.{List}
-use mathlib.Core.Logic.{inl, inr}
+use mathlib.Core.Logic.{_⊎_, inl, inr}
 use Prim.Native.Nat.{ℕ, _+_, _-_, _%_, _^_, _≤_, _<_}
 use native.Mathlib.Omega.{arith}
 use native.Mathlib.Decide.{decLt}
@@ -15,15 +16,34 @@ use Rattle.relocate.specs.Relocate.{shift}
 use Rattle.image.specs.declared.Reading.{Reading}
 use Rattle.image.specs.Guarantee.{Guaranteed}
 use Rattle.image.specs.Words.{wordsOf}
-use Rattle.image.specs.WordsLaws.{spread}
+use Rattle.image.specs.WordsLaws.{spread, widths}
 use Rattle.moving.specs.Moves.{movedTo, Beside}
 use Rattle.moving.specs.MovesLaws.{bytes-moved, moved-beside, moved-word}
-use Rattle.stride.specs.Stride.{Reach, by}
+use Rattle.stride.specs.declared.Step.{Step}
+use Rattle.stride.specs.Stride.{Reach, by, Alike, Stepped}
 
 -- a word lies in the image
 pub word-fits : (xs : List ℕ) (r : Reading) → Guaranteed xs r → (p m j : ℕ) → j < wordsOf xs r .count → wordsOf xs r .at j ≡ p
     → wordsOf xs r .width j ≡ m → p + m ≤ length xs
 word-fits xs r g p m j hj at width = rw (at, width) at (spread xs r g .within j hj)
+
+-- a walk that stands in the image and not before its next word stands in it: the word of m bytes at w lies in the image and has 4 bytes or 8
+pub record InNext (xs : List ℕ) (r : Reading) (at w m : ℕ) : Type 0 where
+  pub past : at < w + m
+  pub fits : w + m ≤ length xs
+  pub wide : (m ≡ 4) ⊎ (m ≡ 8)
+  pub word : (j : ℕ) × (j < wordsOf xs r .count) × (wordsOf xs r .at j ≡ w) × (wordsOf xs r .width j ≡ m)
+
+pub in-next : (xs : List ℕ) (r : Reading) → Guaranteed xs r → (at w m : ℕ) → Reach xs r at w m → w ≤ at → at < length xs
+    → InNext xs r at w m
+in-next xs r g at w m reach low high =
+    let (j, hj, is, width) = reach .word (omega arith) in
+    record {
+      past = reach .past (omega arith);
+      fits = word-fits xs r g w m j hj is width;
+      wide = rw width at (widths xs r g j hj);
+      word = (j, hj, is, width);
+    }
 
 module _ (xs : List ℕ) (r : Reading) (g : Guaranteed xs r) (four eight : ℕ) where
   -- before the next word the reference is the vendor's own bytes
@@ -52,3 +72,14 @@ module _ (xs : List ℕ) (r : Reading) (g : Guaranteed xs r) (four eight : ℕ) 
       let same = le-one m ref (put m xs p v) p (bytes-moved xs ws d n bytes) (bytes-put m xs p v bytes) (number ∙ sym there) in
       let s : p + (k - p) ≡ k = omega arith in
       rw s at (same .same (k - p) (omega arith) ∙ put-in m xs p v (k - p) fits (omega arith))
+
+-- what is passed as equal is a step without a difference
+pub passed-on : {ref ys : List ℕ} {at k : ℕ} → Alike ref ys at k → at < k → Stepped ref ys at (record { at = k; hit = false })
+passed-on a more =
+    record {
+      most = a .most;
+      clear = a .clear;
+      onward = a .onward;
+      passed = λ e. more;
+      found = λ e. absurd (let z : _≡_ {A = ℕ} 0 1 = cc in omega arith);
+    }

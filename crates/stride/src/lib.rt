@@ -144,7 +144,30 @@ fn width_of(first: usize, p: usize, m: usize) -> usize
     4
 }
 
-// The same where the tables' next word stands at `first` and the modules' next, of m bytes, at p: the nearer of the two is next.
+// Where the tables' next word stands at `first` and the modules' next, of m bytes, at p, the nearer of the two is next. Up to where all bytes from
+// `at` on are those of the reference, which is nearly always up to that word or past it; `at` where more is to be looked at. A number alone:
+// a step with its flag would go through memory at each word.
+pub fn pass(
+    vendor: &[u8],
+    shipped: &[u8],
+    r: Reading,
+    four: u32,
+    eight: u64,
+    at: usize,
+    first: usize,
+    p: usize,
+    m: usize,
+) -> usize
+    requires { ⌜ Guaranteed (now vendor) r × (at < length (now vendor)) × (length (now shipped) ≡ length (now vendor)) ⌝ }
+    requires { ⌜ Foremost (now vendor) r at first × (first < length (now vendor) → at < first + 4) × Coming (now vendor) r at p m ⌝ }
+    ensures { λ k. ⌜ Alike (by (now (vendor .entry)) r four eight) (now (shipped .entry)) at k ⌝ }
+{
+    let w = nearer(first, p);
+    let n = width_of(first, p, m);
+    pass_equal(vendor, shipped, r, four, eight, at, w, n)
+}
+
+// One step of the walk from `at` on, whatever the bytes are.
 pub fn advance(
     vendor: &[u8],
     shipped: &[u8],
@@ -162,15 +185,7 @@ pub fn advance(
 {
     let w = nearer(first, p);
     let n = width_of(first, p, m);
-    let k = pass_equal(vendor, shipped, r, four, eight, at, w, n);
-    if at < k {
-        return Step { at: k, hit: false };
-    }
-    // Called at two places, step_to stays out of line, so that this function is small enough to be inlined.
-    if p < first {
-        return step_to(vendor, shipped, r, four, eight, at, p, m);
-    }
-    step_to(vendor, shipped, r, four, eight, at, first, 4)
+    step_to(vendor, shipped, r, four, eight, at, w, n)
 }
 
 // Up to where the modules' next word is the one of m bytes at p.

@@ -26,10 +26,14 @@ countedAt xs ys r t k ahead =
     })
     (record { at = k + 1; ahead = ahead; settings = t .settings; strays = t .strays + 1; bits = t .bits })
 
--- the walk stands at t: its next words are known, and no count is larger than what was passed
-pub record Standing (xs : List ℕ) (r : Reading) (t : Tally) : Type 0 where
+-- t at k, with nothing to count before it
+abbrev pub wentTo : Tally → ℕ → Ahead → Tally
+wentTo t k ahead = record { at = k; ahead = ahead; settings = t .settings; strays = t .strays; bits = t .bits }
+
+-- the walk stands at t: its next word is known, and no count is larger than what was passed
+pub record Standing (xs : List ℕ) (r : Reading) (ms : List ℕ) (t : Tally) : Type 0 where
   pub most : t .at ≤ length xs
-  pub known : Known xs r (t .at) (t .ahead)
+  pub known : Known xs r ms (t .at) (t .ahead)
   pub few : t .settings + t .strays ≤ t .at
   pub few-bits : t .bits ≤ 8 * t .at
 

@@ -24,7 +24,7 @@ use Rattle.queue.specs.declared.Ahead.{Ahead}
 use Rattle.queue.specs.Ahead.{Known}
 use Rattle.queue.specs.AheadLaws.{known-on}
 use Rattle.walk.specs.DifferenceLaws.{rest, rest-over, rest-hit, rest-none}
-use Rattle.walk.specs.Counting.{countedAt, Standing, Counted, Left, Totals}
+use Rattle.walk.specs.Counting.{countedAt, wentTo, Standing, Counted, Left, Totals}
 
 -- no moved word has a byte in the region
 pub region-plain : (xs : List ℕ) (r : Reading) (four eight k : ℕ) → Guaranteed xs r → Holds (setting r k)
@@ -34,13 +34,14 @@ region-plain xs r four eight k g h =
     (beside xs r g (wordsOf xs r .count) k (omega arith) (inr (omega (arith, g))) (inr (omega arith, omega arith)))
 
 module _ (xs ys : List ℕ) (r : Reading) (four eight : ℕ) (g : Guaranteed xs r) (long : length ys ≡ length xs) (t : Tally) (s : Step)
-    (stepped : Stepped (by xs r four eight) ys (t .at) s) (standing : Standing xs r t) (q : Ahead) (known : Known xs r (t .at) q) where
+    (stepped : Stepped (by xs r four eight) ys (t .at) s) {ms : List ℕ} (standing : Standing xs r ms t) (q : Ahead)
+    (known : Known xs r ms (t .at) q) where
   -- what is left from t on is what is left from the step on
   left : rest (by xs r four eight) ys (t .at) ≡ rest (by xs r four eight) ys (s .at)
   left = rest-over (by xs r four eight) ys (t .at) (s .at) (stepped .onward) (stepped .most) (stepped .clear)
 
   pub step-hit : s .hit ≡ true
-      → Counted (by xs r four eight) ys r t (countedAt xs ys r t (s .at) q) × Standing xs r (countedAt xs ys r t (s .at) q)
+      → Counted (by xs r four eight) ys r t (countedAt xs ys r t (s .at) q) × Standing xs r ms (countedAt xs ys r t (s .at) q)
   unfolding settings strays bits
   step-hit hit =
       let k = s .at in
@@ -48,7 +49,7 @@ module _ (xs ys : List ℕ) (r : Reading) (four eight : ℕ) (g : Guaranteed xs 
       let f = stepped .found hit in
       let e : rest ref ys (t .at) ≡ k ∷ rest ref ys (k + 1) = left ∙ rest-hit ref ys k (f .0) (f .1) in
       let known′ = known-on xs r (t .at) q known (k + 1) (omega (arith, stepped .onward)) in
-      by-test (λ (u : Tally). Counted ref ys r t u × Standing xs r u) (setting r k) _ _
+      by-test (λ (u : Tally). Counted ref ys r t u × Standing xs r ms u) (setting r k) _ _
       (λ h.
       let same = region-plain xs r four eight k g h in (
         record {
@@ -80,8 +81,7 @@ module _ (xs ys : List ℕ) (r : Reading) (four eight : ℕ) (g : Guaranteed xs 
       ))
 
   pub step-on : s .hit ≡ false
-      → let u : Tally = record { at = s .at; ahead = q; settings = t .settings; strays = t .strays; bits = t .bits } in
-      Counted (by xs r four eight) ys r t u × Standing xs r u
+      → Counted (by xs r four eight) ys r t (wentTo t (s .at) q) × Standing xs r ms (wentTo t (s .at) q)
   step-on pass = (
     record { onward = stepped .passed pass; settings-kept = rw left; strays-kept = rw left; bits-kept = rw left },
     record {

@@ -7,11 +7,13 @@ ghost use mathlib.Core.Path.{_≡_};
 ghost use Prim.Native.Nat.{_+_, _*_, _^_, _≤_, _<_};
 ghost use lib.ListN.{length};
 ghost use Rattle.facts.specs.Fact.{Tells};
+ghost use Rattle.image.specs.Reading.{entriesAt};
 ghost use Rattle.image.specs.Guarantee.{Guaranteed};
+ghost use Rattle.ranks.specs.Ranks.{Ranked};
 ghost use Rattle.walk.specs.Differences.{setting, entry, flips, countsOf};
 ghost use Rattle.stride.specs.Stride.{Coming, by};
 ghost use Rattle.walk.specs.Windows.{Within, Stands, spent};
-ghost use Rattle.walk.specs.Counting.{countedAt, Standing, Counted, Left, Totals};
+ghost use Rattle.walk.specs.Counting.{countedAt, wentTo, Standing, Counted, Left, Totals};
 
 // Whether a position is in the settings part.
 fn is_setting(r: Reading, k: usize) -> bool
@@ -69,30 +71,12 @@ fn counted(vendor: &[u8], shipped: &[u8], r: Reading, past: Tally, k: usize, ahe
     }
 }
 
-// One step of the walk, with what it counts; the modules' next word is the one of m bytes at p.
-fn count_step(
-    vendor: &[u8],
-    shipped: &[u8],
-    r: Reading,
-    four: u32,
-    eight: u64,
-    t: Tally,
-    p: usize,
-    m: usize,
-) -> Tally
-    requires { ⌜ Guaranteed (now vendor) r × (length (now shipped) ≡ length (now vendor)) × (t .at < length (now vendor))
-        × Standing (now vendor) r t × Coming (now vendor) r (t .at) p m ⌝ }
-    ensures { λ u. ⌜ Counted (by (now (vendor .entry)) r four eight) (now (shipped .entry)) r t u ⌝ }
-    ensures { λ u. ⌜ Standing (now (vendor .entry)) r u ⌝ }
+// No difference before k.
+fn went(t: Tally, k: usize, ahead: Ahead) -> Tally
+    ensures { λ u. ⌜ u ≡ wentTo t k ahead ⌝ }
 {
-    let known = t.ahead;
-    let ahead = queue::current_words(vendor, r, t.at, known);
-    let s = stride::advance(vendor, shipped, r, four, eight, t.at, ahead.first, p, m);
-    if s.hit {
-        return counted(vendor, shipped, r, t, s.at, ahead);
-    }
     Tally {
-        at: s.at,
+        at: k,
         ahead,
         settings: t.settings,
         strays: t.strays,
@@ -100,10 +84,11 @@ fn count_step(
     }
 }
 
-// The walk up to the end of that word.
-fn count_until(
+// One step of the walk, with what it counts; the modules' next word is the one of m bytes at p.
+fn count_step(
     vendor: &[u8],
     shipped: &[u8],
+    ranks: &[u32],
     r: Reading,
     four: u32,
     eight: u64,
@@ -112,15 +97,45 @@ fn count_until(
     m: usize,
 ) -> Tally
     requires { ⌜ Guaranteed (now vendor) r × (length (now shipped) ≡ length (now vendor)) × (t .at < length (now vendor))
-        × Standing (now vendor) r t × Coming (now vendor) r (t .at) p m ⌝ }
+        × Standing (now vendor) r (now ranks) t × Coming (now vendor) r (t .at) p m ⌝ }
+    ensures { λ u. ⌜ Counted (by (now (vendor .entry)) r four eight) (now (shipped .entry)) r t u ⌝ }
+    ensures { λ u. ⌜ Standing (now (vendor .entry)) r (now (ranks .entry)) u ⌝ }
+{
+    let known = t.ahead;
+    let ahead = queue::current_words(vendor, r, ranks, t.at, known);
+    let k = stride::pass(vendor, shipped, r, four, eight, t.at, ahead.first, p, m);
+    if t.at < k {
+        return went(t, k, ahead);
+    }
+    let s = stride::advance(vendor, shipped, r, four, eight, t.at, ahead.first, p, m);
+    if s.hit {
+        return counted(vendor, shipped, r, t, s.at, ahead);
+    }
+    went(t, s.at, ahead)
+}
+
+// The walk up to the end of that word.
+fn count_until(
+    vendor: &[u8],
+    shipped: &[u8],
+    ranks: &[u32],
+    r: Reading,
+    four: u32,
+    eight: u64,
+    t: Tally,
+    p: usize,
+    m: usize,
+) -> Tally
+    requires { ⌜ Guaranteed (now vendor) r × (length (now shipped) ≡ length (now vendor)) × (t .at < length (now vendor))
+        × Standing (now vendor) r (now ranks) t × Coming (now vendor) r (t .at) p m ⌝ }
     requires { ⌜ Left (by (now vendor) r four eight) (now shipped) r t ⌝ }
-    ensures { λ u. ⌜ Left (by (now (vendor .entry)) r four eight) (now (shipped .entry)) r u × Standing (now (vendor .entry)) r u
+    ensures { λ u. ⌜ Left (by (now (vendor .entry)) r four eight) (now (shipped .entry)) r u × Standing (now (vendor .entry)) r (now (ranks .entry)) u
         × (t .at < u .at) ⌝ }
 {
     let end = stride::end_of(p, m, vendor.len());
     let mut u = t;
     while u.at < end {
-        u = count_step(vendor, shipped, r, four, eight, u, p, m);
+        u = count_step(vendor, shipped, ranks, r, four, eight, u, p, m);
     }
     u
 }
@@ -129,6 +144,7 @@ fn count_until(
 fn count_window(
     vendor: &[u8],
     shipped: &[u8],
+    ranks: &[u32],
     marks: &[u8],
     r: Reading,
     four: u32,
@@ -136,10 +152,10 @@ fn count_window(
     t: Tally,
     q: Window,
 ) -> Tally
-    requires { ⌜ Guaranteed (now vendor) r × (length (now shipped) ≡ length (now vendor)) × Standing (now vendor) r t
+    requires { ⌜ Guaranteed (now vendor) r × (length (now shipped) ≡ length (now vendor)) × Standing (now vendor) r (now ranks) t
         × Within (now vendor) r (now marks) (t .at) q ⌝ }
     requires { ⌜ Left (by (now vendor) r four eight) (now shipped) r t ⌝ }
-    ensures { λ u. ⌜ Left (by (now (vendor .entry)) r four eight) (now (shipped .entry)) r u × Standing (now (vendor .entry)) r u
+    ensures { λ u. ⌜ Left (by (now (vendor .entry)) r four eight) (now (shipped .entry)) r u × Standing (now (vendor .entry)) r (now (ranks .entry)) u
         × (t .at < u .at) × Stands (now (vendor .entry)) r (now (marks .entry)) (u .at) (spent q) ⌝ }
 {
     let mut u = t;
@@ -148,7 +164,7 @@ fn count_window(
         width: q.width,
     };
     loop {
-        u = count_until(vendor, shipped, r, four, eight, u, m.at, m.width);
+        u = count_until(vendor, shipped, ranks, r, four, eight, u, m.at, m.width);
         m = windows::next_in(marks, q.from, q.to, m, u.at);
         if q.to <= m.at {
             return u;
@@ -156,16 +172,18 @@ fn count_window(
     }
 }
 
-// The whole walk, from one window of the modules' words to the next; the marks are `near`'s.
+// The whole walk, from one window of the modules' words to the next; the marks are `near`'s, the ranks the patch words in order.
 fn walk_all(
     vendor: &[u8],
     shipped: &[u8],
+    ranks: &[u32],
     r: Reading,
     four: u32,
     eight: u64,
     marks: &mut [u8],
 ) -> Tally
-    requires { ⌜ Guaranteed (now vendor) r × (length (now shipped) ≡ length (now vendor)) × (length (now marks) ≡ 65536) ⌝ }
+    requires { ⌜ Guaranteed (now vendor) r × (length (now shipped) ≡ length (now vendor)) × (length (now marks) ≡ 65536)
+        × Ranked (now vendor) (entriesAt r) (r .n) (now ranks) ⌝ }
     ensures { λ t. ⌜ Totals (by (now (vendor .entry)) r four eight) (now (shipped .entry)) r t ⌝ }
 {
     let v = words::le64(vendor, 32);
@@ -173,14 +191,14 @@ fn walk_all(
     let mut q = windows::open(vendor, v, f);
     let mut t = Tally {
         at: 0,
-        ahead: queue::next_words(vendor, r, 0),
+        ahead: queue::start(r),
         settings: 0,
         strays: 0,
         bits: 0,
     };
     while t.at < vendor.len() {
         q = windows::current(vendor, v, f, marks, t.at, q);
-        t = count_window(vendor, shipped, marks, r, four, eight, t, q);
+        t = count_window(vendor, shipped, ranks, marks, r, four, eight, t, q);
         q.at = q.to;
         q.width = 0;
     }
@@ -200,7 +218,9 @@ pub fn count_all(vendor: &[u8], shipped: &[u8], r: Reading, four: u32, eight: u6
     ensures { λ t. ⌜ t ≡ countsOf (by (now (vendor .entry)) r four eight) (now (shipped .entry)) r ⌝ }
 {
     let mut marks = [0u8; 65536];
-    let t = walk_all(vendor, shipped, r, four, eight, &mut marks);
+    let mut list = [0u32; 1024];
+    queue::rank_words(vendor, r, &mut list);
+    let t = walk_all(vendor, shipped, &list, r, four, eight, &mut marks);
     Counts {
         settings: t.settings,
         strays: t.strays,

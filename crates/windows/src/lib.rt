@@ -77,11 +77,10 @@ fn refill(image: &[u8], v: usize, marks: &mut [u8], q: Window) -> Window
 {
     let u = near::seek(image, v, q.spot, q.to);
     let from = u.low;
-    let spot = u.spot;
     let to = end_of(from, marks.len(), image.len());
     let n = to - from;
     marks::clear(marks, n);
-    near::fill(image, v, spot, from, n, marks);
+    let spot = near::fill(image, v, u.spot, from, n, marks);
     let m = settle(marks, from, to, 0);
     Window {
         from,

@@ -2,6 +2,7 @@ use borrow.Author.Needs.{needs}
 use Rattle.facts.specs.Fact.{holds, is-test}
 use Rattle.sound.specs.Rules.{patchItems}
 use Rattle.whole.specs.Whole.{far}
+use Rattle.paint.specs.MarksLaws.{marks-none}
 use Rattle.clear.specs.Windows.{Going}
 use Rattle.clear.specs.RunsLaws.{at-hand}
 use Rattle.clear.specs.WindowsLaws.{going-start, going-next, going-less, scan-past, scan-end, scan-found}
@@ -23,11 +24,11 @@ start c = c .before .before .before .before .before .before
 
 -- the marks stay as many
 same-long : (c : tie.At-loop Inv-loop μ-loop) → length (c .loop .marks) ≡ length (start (c .before) .args .marks .now)
-same-long c = c .loop .inv .scan .marks .long ∙ sym (start (c .before) .pre .long)
+same-long c = c .loop .inv .scan .marks .long ∙ sym (start (c .before) .pre .clean .long)
 
-renew-requires : tie.Need-renew-requires Inv-loop μ-loop
-renew-requires c κs =
-    let p = c .before .before .before .pre in (p .patch, p .long)
+mark-patch-requires : tie.Need-mark-patch-requires Inv-loop μ-loop
+mark-patch-requires c κs =
+    let p = c .before .before .before .pre in (p .patch, marks-none _ _ (p .clean .long) (p .clean .none))
 
 add-k : tie.Need-add-k Inv-loop μ-loop
 add-k c =
@@ -35,7 +36,7 @@ add-k c =
 
 loop-holds : tie.Need-loop-holds Inv-loop μ-loop
 loop-holds c =
-    going-start _ _ _ _ _ _ _ (start c .pre .behind) (c .before .before .renew .ensures)
+    going-start _ _ _ _ _ _ _ (start c .pre .behind) (c .before .before .mark-patch .ensures)
 
 is-past-requires : tie.Need-is-past-requires Inv-loop μ-loop
 is-past-requires c κs =
@@ -122,7 +123,7 @@ scan-window-spec =
     (tie.spec
     Inv-loop
     μ-loop
-    renew-requires
+    mark-patch-requires
     add-k
     loop-holds
     is-past-requires

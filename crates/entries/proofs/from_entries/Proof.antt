@@ -76,7 +76,7 @@ placed c i h =
 first-overlap-requires : tie.Need-first-overlap-requires
 first-overlap-requires c κs =
     let start = c .before .before .before .before .before .before .before in
-    (start .pre .1, start .pre .2, placed c)
+    (start .pre .1, start .pre .2, placed c, start .pre .4 .small, start .pre .5)
 
 refused-requires-4 : tie.Need-refused-requires-4
 refused-requires-4 c κs = search needs

@@ -18,42 +18,52 @@ shown c = granted (c .before .file-fits .ensures) (c .if2 .left)
 is-free-requires : tie.Need-is-free-requires
 is-free-requires c κs = search needs
 
-sub-t8 : tie.Need-sub-t8
-sub-t8 c = search needs
+sub-last : tie.Need-sub-last
+sub-last c = search needs
+
+last-requires : tie.Need-last-requires
+last-requires c κs = search needs
 
 returns : tie.Need-returns
 returns c =
-    let start = c .before .before .before in
+    let told = c .before in
+    let start = told .before .before .before in
     let a = start .args in
-    record {
+    rw (c .last .ensures)
+    (record {
       ends = λ z. absurd (omega arith);
       goes = λ h.
           ahead-free (a .image .now) (a .v) (a .c) _ (start .pre .3) (start .pre .4)
-          (holds _ (sym (is-test (c .before .is-free .ensures)) ∙ c .if1 .taken)) (omega arith)
+          (holds _ (sym (is-test (told .before .is-free .ensures)) ∙ told .if1 .taken)) (omega arith)
           (omega arith);
       less = λ h. omega (arith, start .pre);
       valid = record { within = omega arith; at-small = omega arith; file-small = omega (arith, start .pre) };
       inside = λ z. absurd (omega arith);
       small = omega (arith, start .pre);
-    }
+    })
 
 file-fits-requires : tie.Need-file-fits-requires
 file-fits-requires c κs = search needs
 
+last-requires-2 : tie.Need-last-requires-2
+last-requires-2 c κs = search needs
+
 returns-2 : tie.Need-returns-2
 returns-2 c =
-    let start = c .before .before .before .before .before in
+    let told = c .before in
+    let start = told .before .before .before .before .before in
     let a = start .args in
-    record {
+    rw (c .last2 .ensures)
+    (record {
       ends = λ z. absurd (omega arith);
       goes = λ h.
-          ahead-broken (a .image .now) (a .v) (a .c) _ (start .pre .3) (start .pre .4) (used (c .before .before))
-          (refuted (c .before .file-fits .ensures) (c .if2 .taken)) (omega arith) (omega arith);
+          ahead-broken (a .image .now) (a .v) (a .c) _ (start .pre .3) (start .pre .4) (used (told .before .before))
+          (refuted (told .before .file-fits .ensures) (told .if2 .taken)) (omega arith) (omega arith);
       less = λ h. omega (arith, start .pre);
       valid = record { within = omega arith; at-small = omega arith; file-small = omega (arith, start .pre) };
       inside = λ z. absurd (omega arith);
       small = omega (arith, start .pre);
-    }
+    })
 
 add-le24 : tie.Need-add-le24
 add-le24 c = search needs
@@ -67,11 +77,11 @@ add-end c = search needs
 sections-at-requires : tie.Need-sections-at-requires
 sections-at-requires c κs = omega (arith, shown (c .before))
 
-add-t15 : tie.Need-add-t15
-add-t15 c = search needs
+add-t11 : tie.Need-add-t11
+add-t11 c = search needs
 
-mul-t18 : tie.Need-mul-t18
-mul-t18 c = search needs
+mul-t14 : tie.Need-mul-t14
+mul-t14 c = search needs
 
 returns-3 : tie.Need-returns-3
 returns-3 c =
@@ -102,14 +112,16 @@ file-step-spec =
     tie.close
     (tie.spec
     is-free-requires
-    sub-t8
+    sub-last
+    last-requires
     returns
     file-fits-requires
+    last-requires-2
     returns-2
     add-le24
     le24-requires
     add-end
     sections-at-requires
-    add-t15
-    mul-t18
+    add-t11
+    mul-t14
     returns-3)

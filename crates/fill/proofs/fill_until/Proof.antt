@@ -9,18 +9,18 @@ use Rattle.fill.proofs.fill_until.Statement.{statement}
 use Rattle.fill.proofs.fill_until.Tie as tie
 
 abbrev Inv-loop : tie.InvT-loop
-Inv-loop vendor shipped places₀ r four eight p m end g₀ places g = Filled inWords (by vendor r four eight) shipped r places₀ places g₀ g
-    × Known vendor r (g .at) (g .ahead)
+Inv-loop vendor shipped places₀ ranks r four eight p m end g₀ places g = Filled inWords (by vendor r four eight) shipped r places₀ places g₀ g
+    × Known vendor r ranks (g .at) (g .ahead)
 
 abbrev μ-loop : tie.MeasureT-loop
-μ-loop vendor shipped places₀ r four eight p m end g₀ places g = end - g .at
+μ-loop vendor shipped places₀ ranks r four eight p m end g₀ places g = end - g .at
 
 -- where that word ends
 past : (c : tie.After-end-of Inv-loop μ-loop) →
-    let a = c .before .before .before .before .args in
+    let a = c .before .before .before .before .before .args in
     (a .f .at < c .end-of .result) × (c .end-of .result ≤ length (a .vendor .now))
 past c =
-    let start = c .before .before .before .before in
+    let start = c .before .before .before .before .before in
     let a = start .args in
     let (g, long, less, known, coming, room) = start .pre in
     let xs = a .vendor .now in
@@ -32,13 +32,13 @@ past c =
 
 end-of-requires : tie.Need-end-of-requires Inv-loop μ-loop
 end-of-requires c κs =
-    let start = c .before .before .before in
+    let start = c .before .before .before .before in
     let a = start .args in
     coming-fits (a .vendor .now) (a .r) (start .pre .0) (a .f .at) (a .p) (a .m) (start .pre .4)
 
 loop-holds : tie.Need-loop-holds Inv-loop μ-loop
 loop-holds c =
-    let start = c .before .before .before .before in
+    let start = c .before .before .before .before .before in
     let a = start .args in (
       filled-none inWords (by (a .vendor .now) (a .r) (a .four) (a .eight)) (a .shipped .now) (a .r) (a .places .now) (a .f)
           (omega (arith, start .pre .2, start .pre .1)),
@@ -49,7 +49,7 @@ fill-step-requires : tie.Need-fill-step-requires Inv-loop μ-loop
 fill-step-requires c κs =
     let at-loop = c .before .before .before in
     let end-of = at-loop .before in
-    let start = end-of .before .before .before .before in
+    let start = end-of .before .before .before .before .before in
     let a = start .args in
     let (g, long, less, known, coming, room) = start .pre in
     let u = at-loop .loop .g in
@@ -67,7 +67,7 @@ loop-again : tie.Need-loop-again Inv-loop μ-loop
 loop-again c =
     let step = c .before .before in
     let at-loop = step .before .before .before .before in
-    let a = at-loop .before .before .before .before .before .args in
+    let a = at-loop .before .before .before .before .before .before .args in
     let inv = at-loop .loop .inv in (
       filled-join inWords (by (a .vendor .now) (a .r) (a .four) (a .eight)) (a .shipped .now) (a .r) (a .places .now)
           (at-loop .loop .places)

@@ -10,15 +10,15 @@ use Rattle.fill.proofs.fill_window.Statement.{statement}
 use Rattle.fill.proofs.fill_window.Tie as tie
 
 abbrev Inv-loop : tie.InvT-loop
-Inv-loop vendor shipped places₀ marks r four eight q g₀ m₀ places g m = Filled inWords (by vendor r four eight) shipped r places₀ places g₀
-    g × Known vendor r (g .at) (g .ahead) × Within vendor r marks (g .at) (at-word q m)
+Inv-loop vendor shipped places₀ ranks marks r four eight q g₀ m₀ places g m = Filled inWords (by vendor r four eight) shipped r places₀ places g₀
+    g × Known vendor r ranks (g .at) (g .ahead) × Within vendor r marks (g .at) (at-word q m)
 
 abbrev μ-loop : tie.MeasureT-loop
-μ-loop vendor shipped places₀ marks r four eight q g₀ m₀ places g m = length vendor - g .at
+μ-loop vendor shipped places₀ ranks marks r four eight q g₀ m₀ places g m = length vendor - g .at
 
 loop-holds : tie.Need-loop-holds Inv-loop μ-loop
 loop-holds c =
-    let start = c .before .before .before .before in
+    let start = c .before .before .before .before .before in
     let a = start .args in
     let (g, long, known, within, room) = start .pre in (
       filled-none inWords (by (a .vendor .now) (a .r) (a .four) (a .eight)) (a .shipped .now) (a .r) (a .places .now) (a .f)
@@ -30,7 +30,7 @@ loop-holds c =
 fill-until-requires : tie.Need-fill-until-requires Inv-loop μ-loop
 fill-until-requires c κs =
     let at-loop = c .before in
-    let start = at-loop .before .before .before .before .before in
+    let start = at-loop .before .before .before .before .before .before in
     let a = start .args in
     let (g, long, known₀, within₀, room) = start .pre in
     let (filled, known, within) = at-loop .loop .inv in
@@ -41,7 +41,7 @@ fill-until-requires c κs =
 next-in-requires : tie.Need-next-in-requires Inv-loop μ-loop
 next-in-requires c κs =
     let at-loop = c .before .before .before .before in
-    let start = at-loop .before .before .before .before .before in
+    let start = at-loop .before .before .before .before .before .before in
     let a = start .args in
     within-fits (a .vendor .now) (a .r) (start .pre .0) (a .marks .now) (at-loop .loop .g .at) (at-word (a .q) (at-loop .loop .m))
     (at-loop .loop .inv .2)
@@ -49,13 +49,13 @@ next-in-requires c κs =
 -- the places up to where the walk has come
 filled : (c : tie.After-fill-until Inv-loop μ-loop) (new : List ℕ) →
     let at-loop = c .before .before in
-    let a = at-loop .before .before .before .before .before .args in
+    let a = at-loop .before .before .before .before .before .before .args in
     let ref = by (a .vendor .now) (a .r) (a .four) (a .eight) in
     Filled inWords ref (a .shipped .now) (a .r) (at-loop .loop .places) new (at-loop .loop .g) (c .fill-until .result)
     → Filled inWords ref (a .shipped .now) (a .r) (a .places .now) new (a .f) (c .fill-until .result)
 filled c new more =
     let at-loop = c .before .before in
-    let a = at-loop .before .before .before .before .before .args in
+    let a = at-loop .before .before .before .before .before .before .args in
     filled-join inWords (by (a .vendor .now) (a .r) (a .four) (a .eight)) (a .shipped .now) (a .r) (a .places .now)
     (at-loop .loop .places) new (a .f) (at-loop .loop .g) (c .fill-until .result) (at-loop .loop .inv .0) more
 
@@ -69,7 +69,7 @@ returns c =
     let next = c .before .before .before in
     let until = next .before .before .before in
     let at-loop = until .before .before in
-    let start = at-loop .before .before .before .before .before in
+    let start = at-loop .before .before .before .before .before .before in
     let a = start .args in
     let (more, on) = until .fill-until .ensures in (
       filled until _ more,
@@ -92,7 +92,7 @@ loop-again c =
     let next = c .before .before .before in
     let until = next .before .before .before in
     let at-loop = until .before .before in
-    let start = at-loop .before .before .before .before .before in
+    let start = at-loop .before .before .before .before .before .before in
     let a = start .args in
     let (more, up) = until .fill-until .ensures in
     let on = next .next-in .ensures in (

@@ -3,7 +3,7 @@ use Rattle.walk.specs.Windows.{within-window}
 use Rattle.stride.specs.NextLaws.{ordered}
 use Rattle.stride.specs.Stride.{by}
 use Rattle.queue.specs.Ahead.{Known}
-use Rattle.queue.specs.AheadLaws.{known-scanned}
+use Rattle.queue.specs.AheadLaws.{known-start}
 use Rattle.near.specs.Near as near
 use lib.ListN.{length}
 use Prim.Native.Nat.{_+_, _-_, _/_}
@@ -13,38 +13,39 @@ use Rattle.fill_bytes.proofs.fill_walk.Statement.{statement}
 use Rattle.fill_bytes.proofs.fill_walk.Tie as tie
 
 abbrev Inv-loop : tie.InvT-loop
-Inv-loop vendor shipped places₀ r four eight marks₀ v h q₀ f₀ places marks q f = Filled inBytes (by vendor r four eight) shipped r places₀
-    places f₀ f × Known vendor r (f .at) (f .ahead) × near.Standing vendor v h (f .at) q marks × (length marks ≡ length marks₀)
+Inv-loop vendor shipped places₀ ranks r four eight marks₀ v h q₀ f₀ places marks q f = Filled inBytes (by vendor r four eight) shipped r places₀
+    places f₀ f × Known vendor r ranks (f .at) (f .ahead) × near.Standing vendor v h (f .at) q marks × (length marks ≡ length marks₀)
 
 abbrev μ-loop : tie.MeasureT-loop
-μ-loop vendor shipped places₀ r four eight marks₀ v h q₀ f₀ places marks q f = length vendor - f .at
+μ-loop vendor shipped places₀ ranks r four eight marks₀ v h q₀ f₀ places marks q f = length vendor - f .at
 
 -- the modules' words can be looked for
 volume : (c : tie.After-le64 Inv-loop μ-loop) →
-    let a = c .before .before .before .before .before .args in
+    let a = c .before .before .before .before .before .before .args in
     near.Ordered (a .vendor .now) (c .le64 .result) (a .r .H - 28)
 volume c =
-    let start = c .before .before .before .before .before in
+    let start = c .before .before .before .before .before .before in
     ordered (start .args .vendor .now) (start .args .r) (start .pre .0) (c .le64 .result) (c .le64 .ensures .is)
 
 le64-requires : tie.Need-le64-requires Inv-loop μ-loop
-le64-requires c κs = omega (arith, c .before .before .before .before .pre .0 .length-least)
+le64-requires c κs = omega (arith, c .before .before .before .before .before .pre .0 .length-least)
 
 sub-h : tie.Need-sub-h Inv-loop μ-loop
-sub-h c = omega (arith, c .before .before .before .before .before .before .pre .0 .file-at)
+sub-h c = omega (arith, c .before .before .before .before .before .before .before .pre .0 .file-at)
 
 open-requires : tie.Need-open-requires Inv-loop μ-loop
 open-requires c κs = volume (c .before) .walkable
 
-next-words-requires : tie.Need-next-words-requires Inv-loop μ-loop
-next-words-requires c κs = c .before .before .before .before .before .before .before .pre .0
+start-requires : tie.Need-start-requires Inv-loop μ-loop
+start-requires c κs = let g = c .before .before .before .before .before .before .before .before .pre .0 in omega (arith, g)
 
 loop-holds : tie.Need-loop-holds Inv-loop μ-loop
 loop-holds c =
-    let a = c .before .before .before .before .before .before .before .before .args in
-    let next = c .next-words in (
+    let start = c .before .before .before .before .before .before .before .before .before in
+    let a = start .args in
+    let next = c .start in (
       filled-none inBytes (by (a .vendor .now) (a .r) (a .four) (a .eight)) (a .shipped .now) (a .r) (a .places .now) _ (omega arith),
-      known-scanned (a .vendor .now) (a .r) 0 (next .result) (next .ensures),
+      known-start (a .vendor .now) (a .r) (a .ranks .now) (start .pre .0) (start .pre .4) (next .result) (next .ensures),
       c .before .open .ensures (a .marks .now),
       refl,
     )
@@ -54,14 +55,14 @@ current-requires c κs =
     let at-loop = c .before .before .before in
     let le64 = at-loop .before .before .before .before in
     let inv = at-loop .loop .inv in
-    (volume le64, inv .2, omega (arith, inv .3, le64 .before .before .before .before .before .pre .3))
+    (volume le64, inv .2, omega (arith, inv .3, le64 .before .before .before .before .before .before .pre .3))
 
 fill-window-requires : tie.Need-fill-window-requires Inv-loop μ-loop
 fill-window-requires c κs =
     let current = c .before .before .before .before in
     let at-loop = current .before .before .before .before in
     let le64 = at-loop .before .before .before .before in
-    let start = le64 .before .before .before .before .before in
+    let start = le64 .before .before .before .before .before .before in
     let a = start .args in
     let inv = at-loop .loop .inv in
     let (stands, next) = current .current .ensures .0 in
@@ -81,7 +82,7 @@ loop-again c =
     let current = window .before .before .before .before .before in
     let at-loop = current .before .before .before .before in
     let le64 = at-loop .before .before .before .before in
-    let a = le64 .before .before .before .before .before .args in
+    let a = le64 .before .before .before .before .before .before .args in
     let inv = at-loop .loop .inv in
     let u = window .fill-window in
     let filled = filled-join inBytes (by (a .vendor .now) (a .r) (a .four) (a .eight)) (a .shipped .now) (a .r) (a .places .now)
@@ -97,7 +98,7 @@ same-length-2 c = c .before .before .loop .inv .3
 returns : tie.Need-returns Inv-loop μ-loop
 returns c =
     let at-loop = c .before .before in
-    let start = at-loop .before .before .before .before .before .before .before .before .before in
+    let start = at-loop .before .before .before .before .before .before .before .before .before .before in
     let a = start .args in
     filled-all inBytes (by (a .vendor .now) (a .r) (a .four) (a .eight)) (a .shipped .now) (a .r) (a .places .now) (at-loop .loop .places) _
     (at-loop .loop .f) (at-loop .loop .inv .0) (omega (arith, start .pre .1))
@@ -111,7 +112,7 @@ fill-walk-spec =
     le64-requires
     sub-h
     open-requires
-    next-words-requires
+    start-requires
     loop-holds
     current-requires
     fill-window-requires

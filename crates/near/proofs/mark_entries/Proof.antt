@@ -1,99 +1,78 @@
-use Rattle.pages.specs.PagesLaws.{paged-own}
-use Rattle.blocks.specs.Blocks.{itemOf, entriesFrom}
-use Rattle.words.specs.Le.{le}
-use Rattle.near.specs.Near.{Noting}
-use Rattle.near.specs.FillLaws.{entry-short, noting-next, noting-end}
-use Prim.Native.Nat.{_+_, _*_}
-use mathlib.Core.Path.{_≡_, _∙_}
-use lib.ListN.{length}
+use Prim.Native.Nat.{ℕ, _+_, _<_, _≤_}
+use mathlib.Core.Logic.{inl, inr}
+use mathlib.Core.Path.{_≡_, refl, sym, _∙_}
 use native.Mathlib.Omega.{arith}
+use borrow.Author.Needs.{needs}
+use Rattle.facts.specs.Fact.{holds, is-test}
+use Rattle.pages.specs.PagesLaws.{paged-own}
+use Rattle.blocks.specs.Blocks.{entriesFrom}
+use Rattle.near.specs.Near.{Has}
+use Rattle.near.specs.FillLaws.{noting-off, has-page}
 use Rattle.near.proofs.mark_entries.Statement.{statement}
 use Rattle.near.proofs.mark_entries.Tie as tie
 
-abbrev Inv-loop : tie.InvT-loop
-Inv-loop image m page at k from n marks₀ q e₀ left₀ marks e left =
-    (e + 2 * left ≡ at + 2 * k)
-    × (length marks ≡ length marks₀)
-    × Noting (entriesFrom image m page at k) (entriesFrom image m page e left) from n marks₀ marks
+page-of-requires : tie.Need-page-of-requires
+page-of-requires c κs = search needs
 
-abbrev μ-loop : tie.MeasureT-loop
-μ-loop image m page at k from n marks₀ q e₀ left₀ marks e left = left
+is-whole-requires : tie.Need-is-whole-requires
+is-whole-requires c κs = search needs
 
--- the item of the entry at hand
-is : (c : tie.After-entry-on Inv-loop μ-loop) →
-    let at-loop = c .before .before in
-    let a = at-loop .before .before .before .before .args in
-    c .entry-on .result ≡ itemOf (a .image .now) (a .m) (a .page) (le 2 (a .image .now) (at-loop .loop .e))
-is c = rw (c .before .before .before .page-of .ensures .is) at (c .entry-on .ensures .0)
+add-if2 : tie.Need-add-if2
+add-if2 c = search needs
 
-page-of-requires : tie.Need-page-of-requires Inv-loop μ-loop
-page-of-requires c κs = let pre = c .before .before .pre .0 in (pre .0, pre .1)
-
-loop-holds : tie.Need-loop-holds Inv-loop μ-loop
-loop-holds c = (omega arith, omega arith, λ all rest telling filling. filling)
-
-entry-on-requires : tie.Need-entry-on-requires Inv-loop μ-loop
-entry-on-requires c κs =
+-- the words of the block start in its page
+lies : (c : tie.Then1) →
     let met = c .before .before in
-    let pre = met .before .before .before .pre .0 in
+    let a = met .before .before .before .args in
+    let q = met .page-of .result in
+    (i w : ℕ) → Has (entriesFrom (a .image .now) (a .m) (a .page) (a .at) (a .k)) i w → (q .at ≤ i) × (i < q .at + 4096)
+lies c i w h =
+    let told = c .before in
+    let met = told .before in
+    let a = met .before .before .before .args in
     let paged = met .page-of .ensures in
-    (pre .0, paged-own _ _ _ _ paged, omega (arith, paged .is, pre .1), omega arith)
+    let whole = holds _ (sym (is-test (told .is-whole .ensures)) ∙ c .if1 .taken) in
+    has-page (a .image .now) (a .m) (met .page-of .result) (paged-own _ _ _ _ paged) (whole .0) (whole .1) (a .at) (a .k) i w
+    (rw (paged .is) h)
 
-mark-requires : tie.Need-mark-requires Inv-loop μ-loop
-mark-requires c κs =
-    let entry = c .before in
-    let at-loop = entry .before .before in
-    let a = at-loop .before .before .before .before .args in
-    let short = entry-short (a .image .now) (a .m) (a .page) (le 2 (a .image .now) (at-loop .loop .e)) in
-    (omega arith, rw (is entry) short)
-
-add-e : tie.Need-add-e Inv-loop μ-loop
-add-e c = omega arith
-
-sub-left : tie.Need-sub-left Inv-loop μ-loop
-sub-left c = omega arith
-
-loop-less : tie.Need-loop-less Inv-loop μ-loop
-loop-less c = omega arith
-
-loop-again : tie.Need-loop-again Inv-loop μ-loop
-loop-again c =
-    let marked = c .before .before in
-    let entry = marked .before .before in
-    let at-loop = entry .before .before in
-    let a = at-loop .before .before .before .before .args in
-    let all = entriesFrom (a .image .now) (a .m) (a .page) (a .at) (a .k) in
-    let noting =
-    noting-next (a .image .now) (a .m) (a .page) (at-loop .loop .e) (at-loop .loop .left) (a .from) (a .n) (entry .entry-on .result) all _ _ _
-    (is entry) (entry .before .loop-test .taken) (at-loop .loop .inv .2) (marked .mark .ensures) in
-    (omega arith, marked .mark .ensures .same-length ∙ at-loop .loop .inv .1, noting)
-
-same-length : tie.Need-same-length Inv-loop μ-loop
-same-length c = c .before .loop .inv .1
-
-returns : tie.Need-returns Inv-loop μ-loop
+returns : tie.Need-returns
 returns c =
-    let at-loop = c .before in
-    let a = at-loop .before .before .before .before .args in
-    let all = entriesFrom (a .image .now) (a .m) (a .page) (a .at) (a .k) in
-    let noting =
-    noting-end (a .image .now) (a .m) (a .page) (at-loop .loop .e) (at-loop .loop .left) (a .from) (a .n) all _ _ (omega arith)
-    (at-loop .loop .inv .2) in
-    (noting, at-loop .loop .inv .1)
+    let start = c .before .before .before .before .before .before .before in
+    let a = start .args in
+    let off = lies (c .before .before) in (
+      noting-off _ (a .from) (a .n) _ (λ i w h. inl (omega (arith, off i w h .1))),
+      (refl, λ e i w h. omega (arith, off i w h .1)),
+    )
+
+add-if3 : tie.Need-add-if3
+add-if3 c = search needs
+
+returns-2 : tie.Need-returns-2
+returns-2 c =
+    let start = c .before .before .before .before .before .before .before .before .before in
+    let a = start .args in
+    let off = lies (c .before .before .before .before) in (
+      noting-off _ (a .from) (a .n) _ (λ i w h. inr (omega (arith, off i w h .0))),
+      (refl, λ e. absurd (let z : _≡_ {A = ℕ} 0 1 = cc in omega arith)),
+    )
+
+mark-each-requires : tie.Need-mark-each-requires
+mark-each-requires c κs =
+    let start = c .before .before .before .before .before .before in
+    let pre = start .pre .0 in
+    let paged = c .before .before .before .page-of .ensures in
+    ((pre .0, paged-own _ _ _ _ paged, omega (arith, paged .is, pre .1), pre .2, pre .3), start .pre .1)
+
+same-length : tie.Need-same-length
+same-length c = search needs
+
+returns-3 : tie.Need-returns-3
+returns-3 c =
+    let each = c .before .before in
+    let paged = each .before .before .before .before .page-of .ensures in
+    (rw (paged .is) at (each .mark-each .ensures .0), (each .mark-each .ensures .1 .0, rw (paged .is) at (each .mark-each .ensures .1 .1)))
 
 pub mark-entries-spec : {M : Type 1} → statement M
 mark-entries-spec =
     tie.close
-    (tie.spec
-    Inv-loop
-    μ-loop
-    page-of-requires
-    loop-holds
-    entry-on-requires
-    mark-requires
-    add-e
-    sub-left
-    loop-less
-    loop-again
-    same-length
-    returns)
+    (tie.spec page-of-requires is-whole-requires add-if2 returns add-if3 returns-2 mark-each-requires same-length returns-3)

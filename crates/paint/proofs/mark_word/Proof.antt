@@ -1,4 +1,4 @@
-use Rattle.paint.specs.Wide.{painted-whole}
+use Rattle.paint.specs.MarksLaws.{painted-whole}
 use native.Mathlib.Omega.{arith}
 use borrow.Author.Needs.{needs}
 use Rattle.paint.proofs.mark_word.Statement.{statement}

@@ -40,11 +40,18 @@ above : (xs : List ℕ) (t i : ℕ) (w : Place) {e high : ℕ} → w ≡ place x
 above xs t i w is h k = rw is at (le-trans h k)
 
 -- the entry at hand, past its first check and at a word apart from it
-beyond : (c : tie.Else2 Inv-loop μ-loop Inv-entries μ-entries) →
+beyond : (c : tie.Else3 Inv-loop μ-loop Inv-entries μ-entries) →
     let at-entries = c .before .before .before .before in
-    let a = at-entries .before .before .args in
+    let a = at-entries .before .before .before .before .args in
     Holds (outside (place (a .image .now) (a .t) (at-entries .entries .i) .at) (a .t + 4 * a .n) (a .c) (a .z))
-beyond c = rw (c .before .before .point-at .ensures) at (granted (c .before .is-outside .ensures) (c .if2 .left))
+beyond c = rw (c .before .before .point-at .ensures) at (granted (c .before .is-outside .ensures) (c .if3 .left))
+
+all-clear-requires : tie.Need-all-clear-requires Inv-loop μ-loop Inv-entries μ-entries
+all-clear-requires c κs = search needs
+
+returns : tie.Need-returns Inv-loop μ-loop Inv-entries μ-entries
+returns c =
+    is-first (record { within = omega arith; clear = c .before .all-clear .ensures (c .if1 .taken); fault = λ h. absurd (omega arith) })
 
 mul-E : tie.Need-mul-E Inv-loop μ-loop Inv-entries μ-entries
 mul-E c = search needs
@@ -61,7 +68,7 @@ point-at-requires c κs = search needs
 is-outside-requires : tie.Need-is-outside-requires Inv-loop μ-loop Inv-entries μ-entries
 is-outside-requires c κs =
     let at-entries = c .before .before in
-    let start = at-entries .before .before in
+    let start = at-entries .before .before .before .before in
     omega (arith, small (c .point-at .result) (start .args .image .now) (start .args .t) (at-entries .entries .i) (c .point-at .ensures))
 
 skipped-requires : tie.Need-skipped-requires Inv-loop μ-loop Inv-entries μ-entries
@@ -71,7 +78,7 @@ loop-holds : tie.Need-loop-holds Inv-loop μ-loop Inv-entries μ-entries
 loop-holds c =
     let at-point = c .before .before .before in
     let at-entries = at-point .before .before in
-    let start = at-entries .before .before in (
+    let start = at-entries .before .before .before .before in (
       c .skipped .ensures .0,
       λ k h.
           let l = c .skipped .ensures .0 in
@@ -82,7 +89,7 @@ loop-holds c =
 
 spot-at-requires : tie.Need-spot-at-requires Inv-loop μ-loop Inv-entries μ-entries
 spot-at-requires c κs =
-    let start = c .before .before .before .before .before .before .before .before .before in
+    let start = c .before .before .before .before .before .before .before .before .before .before .before in
     (omega (arith, start .pre .0), start .pre .2 (c .before .loop .j) (omega arith))
 
 is-apart-requires : tie.Need-is-apart-requires Inv-loop μ-loop Inv-entries μ-entries
@@ -90,7 +97,7 @@ is-apart-requires c κs =
     let at-loop = c .before .before in
     let at-point = at-loop .before .before .before .before in
     let at-entries = at-point .before .before in
-    let start = at-entries .before .before in
+    let start = at-entries .before .before .before .before in
     let xs = start .args .image .now in
     omega (
       arith,
@@ -112,14 +119,14 @@ loop-again c =
       omega arith,
       below-more _ _ (at-loop .loop .inv .1)
           (rw (at-point .point-at .ensures, c .before .before .spot-at .ensures) at
-          (granted (c .before .is-apart .ensures) (c .if3 .left))),
+          (granted (c .before .is-apart .ensures) (c .if4 .left))),
     )
 
 end-with-requires : tie.Need-end-with-requires Inv-loop μ-loop Inv-entries μ-entries
 end-with-requires c κs =
     let at-point = c .before .before .before .before .before in
     let at-entries = at-point .before .before in
-    let start = at-entries .before .before in
+    let start = at-entries .before .before .before .before in
     let near-by = small (at-point .point-at .result) (start .args .image .now) (start .args .t) (at-entries .entries .i) in
     omega (arith, start, near-by (at-point .point-at .ensures))
 
@@ -140,22 +147,22 @@ entries-again c =
           (rw (at-point .point-at .ensures) at (c .end-with .ensures .1)),
     )
 
-returns : tie.Need-returns Inv-loop μ-loop Inv-entries μ-entries
-returns c =
-    let e : c .before .entries .i ≡ c .before .before .before .args .n = omega arith in
-    is-first (record { within = omega arith; clear = c .before .entries .inv .1; fault = λ h. absurd (omega arith) })
-
 returns-2 : tie.Need-returns-2 Inv-loop μ-loop Inv-entries μ-entries
 returns-2 c =
+    let e : c .before .entries .i ≡ c .before .before .before .before .before .args .n = omega arith in
+    is-first (record { within = omega arith; clear = c .before .entries .inv .1; fault = λ h. absurd (omega arith) })
+
+returns-3 : tie.Need-returns-3 Inv-loop μ-loop Inv-entries μ-entries
+returns-3 c =
     let at-entries = c .before .before .before .before in
     is-first (record {
       within = omega arith;
       clear = at-entries .entries .inv .1;
-      fault = λ h p. refuted (c .before .is-outside .ensures) (c .if2 .taken) (rw (c .before .before .point-at .ensures) (p .0));
+      fault = λ h p. refuted (c .before .is-outside .ensures) (c .if3 .taken) (rw (c .before .before .point-at .ensures) (p .0));
     })
 
-returns-3 : tie.Need-returns-3 Inv-loop μ-loop Inv-entries μ-entries
-returns-3 c =
+returns-4 : tie.Need-returns-4 Inv-loop μ-loop Inv-entries μ-entries
+returns-4 c =
     let at-loop = c .before .before .before .before in
     let at-point = at-loop .before .before .before .before in
     let at-entries = at-point .before .before in
@@ -163,7 +170,7 @@ returns-3 c =
       within = omega arith;
       clear = at-entries .entries .inv .1;
       fault = λ h p.
-          refuted (c .before .is-apart .ensures) (c .if3 .taken)
+          refuted (c .before .is-apart .ensures) (c .if4 .taken)
           (rw (at-point .point-at .ensures, c .before .before .spot-at .ensures) (p .1 (at-loop .loop .j) (omega arith)));
     })
 
@@ -175,6 +182,8 @@ first-overlap-spec =
     μ-loop
     Inv-entries
     μ-entries
+    all-clear-requires
+    returns
     mul-E
     add-E
     entries-holds
@@ -191,6 +200,6 @@ first-overlap-spec =
     add-i
     entries-less
     entries-again
-    returns
     returns-2
-    returns-3)
+    returns-3
+    returns-4)

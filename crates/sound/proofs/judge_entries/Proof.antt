@@ -1,10 +1,10 @@
 use Prim.Native.Nat.{_+_, _-_}
-use mathlib.Core.Path.{_≡_, refl}
+use mathlib.Core.Path.{_≡_}
 use native.Mathlib.Omega.{arith}
 use borrow.Author.Needs.{needs}
 use Rattle.facts.specs.Fact.{granted}
 use Rattle.pages.specs.PagesLaws.{paged-own}
-use Rattle.sound.specs.RunsLaws.{on-join, entries-cut, ran-on}
+use Rattle.sound.specs.RunsLaws.{on-join, entries-cut, gap-on}
 use Rattle.sound.proofs.judge_entries.Statement.{statement}
 use Rattle.sound.proofs.judge_entries.Tie as tie
 
@@ -24,8 +24,8 @@ judge-rest-requires c κs =
 returns : tie.Need-returns
 returns c = rw (c .before .before .before .page-of .ensures .is) at (c .judge-rest .ensures)
 
-run-requires : tie.Need-run-requires
-run-requires c κs = search needs
+pass-words-requires : tie.Need-pass-words-requires
+pass-words-requires c κs = search needs
 
 later-requires : tie.Need-later-requires
 later-requires c κs = search needs
@@ -46,7 +46,7 @@ judge-unordered-requires c κs =
     let found = past .before .before in
     let pre = found .before .before .pre in
     let q = found .page-of .ensures in (
-      (pre .0, paged-own _ _ _ _ q, omega (arith, q .is, pre .1), omega (arith, ran .run .ensures .0, pre .2), pre .3, pre .4),
+      (pre .0, paged-own _ _ _ _ q, omega (arith, q .is, pre .1), omega (arith, ran .pass-words .ensures .0, pre .2), pre .3, pre .4),
       (granted (past .before .is-clear .ensures) (past .if1 .left), omega (arith, q .within, pre .0 .within, pre .0 .long)),
     )
 
@@ -59,13 +59,13 @@ returns-2 c =
     let a = found .before .before .args in
     let xs = a .image .now in
     let q = found .page-of .result in
-    let n = ran .run .result .count in
+    let n = ran .pass-words .result .count in
     let clear = granted (past .before .is-clear .ensures) (past .if1 .left) in
-    let run = ran-on xs (a .m) q (paged-own _ _ _ _ (found .page-of .ensures)) (a .E) (a .c) (a .z) clear _ (a .at) n _ _ (a .judged)
-    (passed .later .result) (ran .run .ensures .1) refl refl (passed .later .ensures) in
+    let run = gap-on xs (a .m) q (paged-own _ _ _ _ (found .page-of .ensures)) (a .E) (a .c) (a .z) clear (a .at) n _ (a .judged)
+    (passed .later .result) (ran .pass-words .ensures .1) (passed .later .ensures) in
     let all = on-join _ _ (a .E) (a .c) (a .z) (a .judged) (passed .later .result) (c .judge-unordered .result) run (c .judge-unordered .ensures) in
     let cut = entries-cut xs (a .m) (q .page) (a .at) n (a .k - n) in
-    let e : n + (a .k - n) ≡ a .k = omega (arith, ran .run .ensures .0) in
+    let e : n + (a .k - n) ≡ a .k = omega (arith, ran .pass-words .ensures .0) in
     rw (found .page-of .ensures .is) at (rw e at (rw (← cut) at all))
 
 pub judge-entries-spec : {M : Type 1} → statement M
@@ -76,7 +76,7 @@ judge-entries-spec =
     is-clear-requires
     judge-rest-requires
     returns
-    run-requires
+    pass-words-requires
     later-requires
     mul-judge-unordered
     add-judge-unordered

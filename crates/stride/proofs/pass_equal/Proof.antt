@@ -1,5 +1,5 @@
 use Rattle.words.specs.PutLaws.{number-byte}
-use Rattle.stride.specs.StrideLaws.{plain, word-fits, in-word}
+use Rattle.stride.specs.StrideLaws.{plain, InNext, in-next, in-word}
 use Rattle.stride.specs.Stride.{by}
 use Rattle.image.specs.Words.{wordsOf}
 use Rattle.image.specs.WordsLaws.{widths}
@@ -20,28 +20,10 @@ unfolding Bytes
 bytes c = λ i. omega (arith, c .shared-slice-known .given i)
 
 -- past the test the walk stands in a word
-word : (c : tie.Else1) →
-    let a = c .before .before .before .args in
-    (j : ℕ) × (j < wordsOf (a .vendor .now) (a .r) .count) × (wordsOf (a .vendor .now) (a .r) .at j ≡ a .w)
-    × (wordsOf (a .vendor .now) (a .r) .width j ≡ a .m)
-word c = let start = c .before .before .before in start .pre .1 .word (omega (arith, start .pre .2))
-
-here : (c : tie.Else1) →
-    let a = c .before .before .before .args in
-    (a .at < a .w + a .m) × (a .w + a .m ≤ length (a .vendor .now))
+here : (c : tie.Else1) → let a = c .before .before .before .args in InNext (a .vendor .now) (a .r) (a .at) (a .w) (a .m)
 here c =
     let start = c .before .before .before in
-    let a = start .args in
-    let (j, hj, at, width) = word c in
-    (start .pre .1 .past (omega (arith, start .pre .2)), word-fits (a .vendor .now) (a .r) (start .pre .0) (a .w) (a .m) j hj at width)
-
--- of 4 bytes or 8
-wide : (c : tie.Else1) → let a = c .before .before .before .args in (a .m ≡ 4) ⊎ (a .m ≡ 8)
-wide c =
-    let start = c .before .before .before in
-    let a = start .args in
-    let (j, hj, at, width) = word c in
-    rw width at (widths (a .vendor .now) (a .r) (start .pre .0) j hj)
+    in-next _ _ (start .pre .0) _ _ _ (start .pre .1) (omega arith) (start .pre .2)
 
 is-same-requires : tie.Need-is-same-requires
 is-same-requires c κs = let start = c .before .before .before in omega (arith, start .pre .1 .most, start .pre .3)
@@ -63,14 +45,14 @@ returns-2 : tie.Need-returns-2
 returns-2 c = search needs
 
 moved-word-requires : tie.Need-moved-word-requires
-moved-word-requires c κs = (here c .1, wide c)
+moved-word-requires c κs = (here c .fits, here c .wide)
 
 is-word-requires : tie.Need-is-word-requires
-is-word-requires c κs = omega (arith, here (c .before), c .before .before .before .before .pre .3)
+is-word-requires c κs = omega (arith, here (c .before) .fits, c .before .before .before .before .pre .3)
 
 add-result : tie.Need-add-result
 add-result c =
-    record { fits = omega (arith, here (c .before .before .before), c .before .before .before .before .before .before .pre .0 .length-most) }
+    record { fits = omega (arith, here (c .before .before .before) .fits, c .before .before .before .before .before .before .pre .0 .length-most) }
 
 returns-3 : tie.Need-returns-3
 unfolding Bytes
@@ -80,7 +62,7 @@ returns-3 c =
     let a = start .args in
     let xs = a .vendor .now in
     let h = here else in
-    let (j, hj, at, width) = word else in
+    let (j, hj, at, width) = h .word in
     let value = c .before .before .moved-word .result in
     let ships = number-byte (a .m) (a .shipped .now) (a .w) value (λ i. omega (arith, else .before .shared-slice-known2 .given i))
     (omega (arith, h, start .pre .3)) (c .before .is-word .ensures (c .if3 .taken)) in

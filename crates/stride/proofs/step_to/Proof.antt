@@ -1,4 +1,4 @@
-use Rattle.stride.specs.StrideLaws.{plain, word-fits, in-word}
+use Rattle.stride.specs.StrideLaws.{plain, InNext, in-next, in-word}
 use Rattle.stride.specs.Stride.{by}
 use Rattle.image.specs.Words.{wordsOf}
 use Rattle.image.specs.WordsLaws.{widths}
@@ -20,31 +20,13 @@ unfolding Bytes
 bytes c = λ i. omega (arith, c .shared-slice-known .given i)
 
 -- past the test the walk stands in a word
-word : (c : tie.Else1) →
-    let a = c .before .before .before .args in
-    (j : ℕ) × (j < wordsOf (a .vendor .now) (a .r) .count) × (wordsOf (a .vendor .now) (a .r) .at j ≡ a .w)
-    × (wordsOf (a .vendor .now) (a .r) .width j ≡ a .m)
-word c = let start = c .before .before .before in start .pre .1 .word (omega (arith, start .pre .2))
-
-here : (c : tie.Else1) →
-    let a = c .before .before .before .args in
-    (a .at < a .w + a .m) × (a .w + a .m ≤ length (a .vendor .now))
+here : (c : tie.Else1) → let a = c .before .before .before .args in InNext (a .vendor .now) (a .r) (a .at) (a .w) (a .m)
 here c =
     let start = c .before .before .before in
-    let a = start .args in
-    let (j, hj, at, width) = word c in
-    (start .pre .1 .past (omega (arith, start .pre .2)), word-fits (a .vendor .now) (a .r) (start .pre .0) (a .w) (a .m) j hj at width)
-
--- of 4 bytes or 8
-wide : (c : tie.Else1) → let a = c .before .before .before .args in (a .m ≡ 4) ⊎ (a .m ≡ 8)
-wide c =
-    let start = c .before .before .before in
-    let a = start .args in
-    let (j, hj, at, width) = word c in
-    rw width at (widths (a .vendor .now) (a .r) (start .pre .0) j hj)
+    in-next _ _ (start .pre .0) _ _ _ (start .pre .1) (omega arith) (start .pre .2)
 
 few : (c : tie.Else1) → c .before .before .before .args .m ≤ 8
-few c = ⊎-elim (λ e. omega arith) (λ e. omega arith) (wide c)
+few c = ⊎-elim (λ e. omega arith) (λ e. omega arith) (here c .wide)
 
 first-difference-requires : tie.Need-first-difference-requires
 first-difference-requires c κs = let start = c .before .before .before in omega (arith, start .pre .1 .most, start .pre .3)
@@ -68,13 +50,13 @@ returns c =
     }
 
 moved-word-requires : tie.Need-moved-word-requires
-moved-word-requires c κs = (here c .1, wide c)
+moved-word-requires c κs = (here c .fits, here c .wide)
 
 first-in-word-requires : tie.Need-first-in-word-requires
-first-in-word-requires c κs = omega (arith, here (c .before), few (c .before), c .before .before .before .before .pre .3)
+first-in-word-requires c κs = omega (arith, here (c .before) .past, here (c .before) .fits, few (c .before), c .before .before .before .before .pre .3)
 
 add-t14 : tie.Need-add-t14
-add-t14 c = record { fits = omega (arith, here (c .before .before), c .before .before .before .before .before .pre .0 .length-most) }
+add-t14 c = record { fits = omega (arith, here (c .before .before) .fits, c .before .before .before .before .before .pre .0 .length-most) }
 
 returns-2 : tie.Need-returns-2
 returns-2 c =
@@ -86,7 +68,7 @@ returns-2 c =
     let i-w = c .first-in-word .ensures in
     let k = c .first-in-word .result in
     let h = here (c .before .before) in
-    let (j, hj, at, width) = word (c .before .before) in
+    let (j, hj, at, width) = h .word in
     let same : (i : ℕ) → w ≤ i → i < w + m → getD (by xs (a .r) (a .four) (a .eight)) i 0 ≡ digit (c .before .moved-word .result)
     (i - w) = λ i l q. rw (c .before .moved-word .ensures) (in-word xs (a .r) (start .pre .0) (a .four) (a .eight)
     (bytes (c .before .before .before .before)) w m i j hj at width l q) in

@@ -9,17 +9,17 @@ use Rattle.walk.proofs.count_until.Statement.{statement}
 use Rattle.walk.proofs.count_until.Tie as tie
 
 abbrev Inv-loop : tie.InvT-loop
-Inv-loop vendor shipped r four eight p m end u₀ u = Left (by vendor r four eight) shipped r u × Standing vendor r u × (u₀ .at ≤ u .at)
+Inv-loop vendor shipped ranks r four eight p m end u₀ u = Left (by vendor r four eight) shipped r u × Standing vendor r ranks u × (u₀ .at ≤ u .at)
 
 abbrev μ-loop : tie.MeasureT-loop
-μ-loop vendor shipped r four eight p m end u₀ u = end - u .at
+μ-loop vendor shipped ranks r four eight p m end u₀ u = end - u .at
 
 -- where that word ends
 past : (c : tie.After-end-of Inv-loop μ-loop) →
-    let a = c .before .before .before .args in
+    let a = c .before .before .before .before .args in
     (a .t .at < c .end-of .result) × (c .end-of .result ≤ length (a .vendor .now))
 past c =
-    let start = c .before .before .before in
+    let start = c .before .before .before .before in
     let a = start .args in
     let (g, long, less, standing, coming) = start .pre .0 in
     let xs = a .vendor .now in
@@ -31,18 +31,18 @@ past c =
 
 end-of-requires : tie.Need-end-of-requires Inv-loop μ-loop
 end-of-requires c κs =
-    let start = c .before .before in
+    let start = c .before .before .before in
     let a = start .args in
     coming-fits (a .vendor .now) (a .r) (start .pre .0 .0) (a .t .at) (a .p) (a .m) (start .pre .0 .4)
 
 loop-holds : tie.Need-loop-holds Inv-loop μ-loop
-loop-holds c = let start = c .before .before .before in (start .pre .1, start .pre .0 .3, omega arith)
+loop-holds c = let start = c .before .before .before .before in (start .pre .1, start .pre .0 .3, omega arith)
 
 count-step-requires : tie.Need-count-step-requires Inv-loop μ-loop
 count-step-requires c κs =
     let at-loop = c .before .before in
     let end-of = at-loop .before in
-    let start = end-of .before .before .before in
+    let start = end-of .before .before .before .before in
     let a = start .args in
     let (g, long, less, standing, coming) = start .pre .0 in
     let u = at-loop .loop .u in
@@ -57,7 +57,7 @@ loop-less c = omega (arith, c .count-step .ensures .0 .onward)
 loop-again : tie.Need-loop-again Inv-loop μ-loop
 loop-again c =
     let at-loop = c .before .before .before in
-    let a = at-loop .before .before .before .before .args in
+    let a = at-loop .before .before .before .before .before .args in
     let inv = at-loop .loop .inv in
     let step = c .count-step in (
       left-step (by (a .vendor .now) (a .r) (a .four) (a .eight)) (a .shipped .now) (a .r) (at-loop .loop .u) (step .result) (inv .0)

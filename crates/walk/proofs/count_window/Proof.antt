@@ -8,25 +8,25 @@ use Rattle.walk.proofs.count_window.Statement.{statement}
 use Rattle.walk.proofs.count_window.Tie as tie
 
 abbrev Inv-loop : tie.InvT-loop
-Inv-loop vendor shipped marks r four eight q u₀ m₀ u m = Left (by vendor r four eight) shipped r u × Standing vendor r u
+Inv-loop vendor shipped ranks marks r four eight q u₀ m₀ u m = Left (by vendor r four eight) shipped r u × Standing vendor r ranks u
     × Within vendor r marks (u .at) (at-word q m) × (u₀ .at ≤ u .at)
 
 abbrev μ-loop : tie.MeasureT-loop
-μ-loop vendor shipped marks r four eight q u₀ m₀ u m = length vendor - u .at
+μ-loop vendor shipped ranks marks r four eight q u₀ m₀ u m = length vendor - u .at
 
 loop-holds : tie.Need-loop-holds Inv-loop μ-loop
-loop-holds c = let p = c .before .before .before .pre in (p .1, p .0 .2, p .0 .3, omega arith)
+loop-holds c = let p = c .before .before .before .before .pre in (p .1, p .0 .2, p .0 .3, omega arith)
 
 count-until-requires : tie.Need-count-until-requires Inv-loop μ-loop
 count-until-requires c κs =
-    let start = c .before .before .before .before in
+    let start = c .before .before .before .before .before in
     let (left, standing, within, up) = c .loop .inv in
     ((start .pre .0 .0, start .pre .0 .1, within .less, standing, within .coming), left)
 
 next-in-requires : tie.Need-next-in-requires Inv-loop μ-loop
 next-in-requires c κs =
     let at-loop = c .before in
-    let start = at-loop .before .before .before .before in
+    let start = at-loop .before .before .before .before .before in
     let a = start .args in
     within-fits (a .vendor .now) (a .r) (start .pre .0 .0) (a .marks .now) (at-loop .loop .u .at) (at-word (a .q) (at-loop .loop .m))
     (at-loop .loop .inv .2)
@@ -36,7 +36,7 @@ returns c =
     let next = c .before .before .before in
     let until = next .before in
     let at-loop = until .before in
-    let start = at-loop .before .before .before .before in
+    let start = at-loop .before .before .before .before .before in
     let a = start .args in
     let (left, standing, more) = until .count-until .ensures in (
       left,
@@ -57,7 +57,7 @@ loop-again c =
     let next = c .before .before .before in
     let until = next .before in
     let at-loop = until .before in
-    let start = at-loop .before .before .before .before in
+    let start = at-loop .before .before .before .before .before in
     let a = start .args in
     let (left, standing, more) = until .count-until .ensures in
     let on = next .next-in .ensures in (

@@ -3,7 +3,7 @@ use Rattle.walk.specs.Windows.{within-window}
 use Rattle.stride.specs.NextLaws.{ordered}
 use Rattle.walk.specs.Counting.{Standing, Left}
 use Rattle.stride.specs.Stride.{by}
-use Rattle.queue.specs.AheadLaws.{known-scanned}
+use Rattle.queue.specs.AheadLaws.{known-start}
 use Rattle.near.specs.Near as near
 use lib.ListN.{length}
 use Prim.Native.Nat.{_-_}
@@ -13,40 +13,41 @@ use Rattle.walk.proofs.walk_all.Statement.{statement}
 use Rattle.walk.proofs.walk_all.Tie as tie
 
 abbrev Inv-loop : tie.InvT-loop
-Inv-loop vendor shipped r four eight marks₀ v f q₀ t₀ marks q t = Left (by vendor r four eight) shipped r t × Standing vendor r t
+Inv-loop vendor shipped ranks r four eight marks₀ v f q₀ t₀ marks q t = Left (by vendor r four eight) shipped r t × Standing vendor r ranks t
     × near.Standing vendor v f (t .at) q marks × (length marks ≡ length marks₀)
 
 abbrev μ-loop : tie.MeasureT-loop
-μ-loop vendor shipped r four eight marks₀ v f q₀ t₀ marks q t = length vendor - t .at
+μ-loop vendor shipped ranks r four eight marks₀ v f q₀ t₀ marks q t = length vendor - t .at
 
 -- the modules' words can be looked for
 volume : (c : tie.After-le64 Inv-loop μ-loop) →
-    let a = c .before .before .before .before .args in
+    let a = c .before .before .before .before .before .args in
     near.Ordered (a .vendor .now) (c .le64 .result) (a .r .H - 28)
 volume c =
-    let start = c .before .before .before .before in
+    let start = c .before .before .before .before .before in
     ordered (start .args .vendor .now) (start .args .r) (start .pre .0) (c .le64 .result) (c .le64 .ensures .is)
 
 le64-requires : tie.Need-le64-requires Inv-loop μ-loop
-le64-requires c κs = omega (arith, c .before .before .before .pre .0 .length-least)
+le64-requires c κs = omega (arith, c .before .before .before .before .pre .0 .length-least)
 
 sub-f : tie.Need-sub-f Inv-loop μ-loop
-sub-f c = omega (arith, c .before .before .before .before .before .pre .0 .file-at)
+sub-f c = omega (arith, c .before .before .before .before .before .before .pre .0 .file-at)
 
 open-requires : tie.Need-open-requires Inv-loop μ-loop
 open-requires c κs = volume (c .before) .walkable
 
-next-words-requires : tie.Need-next-words-requires Inv-loop μ-loop
-next-words-requires c κs = c .before .before .before .before .before .before .pre .0
+start-requires : tie.Need-start-requires Inv-loop μ-loop
+start-requires c κs = let g = c .before .before .before .before .before .before .before .pre .0 in omega (arith, g)
 
 loop-holds : tie.Need-loop-holds Inv-loop μ-loop
 loop-holds c =
-    let a = c .before .before .before .before .before .before .before .args in
-    let next = c .next-words in (
+    let start = c .before .before .before .before .before .before .before .before in
+    let a = start .args in
+    let next = c .start in (
       left-start (by (a .vendor .now) (a .r) (a .four) (a .eight)) (a .shipped .now) (a .r) (next .result),
       record {
         most = omega arith;
-        known = known-scanned (a .vendor .now) (a .r) 0 (next .result) (next .ensures);
+        known = known-start (a .vendor .now) (a .r) (a .ranks .now) (start .pre .0) (start .pre .3) (next .result) (next .ensures);
         few = omega arith;
         few-bits = omega arith;
       },
@@ -59,14 +60,14 @@ current-requires c κs =
     let at-loop = c .before .before .before in
     let le64 = at-loop .before .before .before .before in
     let inv = at-loop .loop .inv in
-    (volume le64, inv .2, omega (arith, inv .3, le64 .before .before .before .before .pre .2))
+    (volume le64, inv .2, omega (arith, inv .3, le64 .before .before .before .before .before .pre .2))
 
 count-window-requires : tie.Need-count-window-requires Inv-loop μ-loop
 count-window-requires c κs =
     let current = c .before .before .before in
     let at-loop = current .before .before .before .before in
     let le64 = at-loop .before .before .before .before in
-    let start = le64 .before .before .before .before in
+    let start = le64 .before .before .before .before .before in
     let a = start .args in
     let inv = at-loop .loop .inv in
     let (stands, next) = current .current .ensures .0 in
@@ -91,7 +92,7 @@ same-length c = c .before .before .loop .inv .3
 returns : tie.Need-returns Inv-loop μ-loop
 returns c =
     let at-loop = c .before .before in
-    let start = at-loop .before .before .before .before .before .before .before .before in
+    let start = at-loop .before .before .before .before .before .before .before .before .before in
     let a = start .args in
     left-end (by (a .vendor .now) (a .r) (a .four) (a .eight)) (a .shipped .now) (a .r) (at-loop .loop .t) (at-loop .loop .inv .0)
     (omega (arith, start .pre .1))
@@ -105,7 +106,7 @@ walk-all-spec =
     le64-requires
     sub-f
     open-requires
-    next-words-requires
+    start-requires
     loop-holds
     current-requires
     count-window-requires

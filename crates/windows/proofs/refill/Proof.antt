@@ -21,7 +21,7 @@ fill-requires : tie.Need-fill-requires
 fill-requires c κs =
     let clear = c .before .before .before in
     let ended = clear .before .before in
-    let seek = ended .before .before in
+    let seek = ended .before in
     let start = seek .before .before .before in
     let (p, q) = start .pre in
     let passed = seek .seek .ensures .passed in
@@ -42,7 +42,7 @@ returns c =
     let fill = c .before .before .before .before in
     let clear = fill .before .before .before .before in
     let ended = clear .before .before in
-    let seek = ended .before .before in
+    let seek = ended .before in
     let start = seek .before .before .before in
     let a = start .args in
     let (low, most, few, more) = ended .end-of .ensures in
@@ -51,8 +51,8 @@ returns c =
     window-grows (a .q .to) (seek .seek .result .low) (ended .end-of .result) _ (sought .onward) (start .pre .0 .2) low
     (more (start .pre .0 .3)) in (
       refilled (a .image .now) (a .v) (a .q) (seek .seek .result) (ended .end-of .result) _ (c .settle .result) sought grows low most
-          (fill .fill .ensures .0) (c .settle .ensures),
-      fill .fill .ensures .1 ∙ clear .clear .ensures .0,
+          (fill .fill .ensures .0) (c .settle .ensures) (fill .fill .result) (fill .fill .ensures .1 .1),
+      fill .fill .ensures .1 .0 ∙ clear .clear .ensures .0,
     )
 
 pub refill-spec : {M : Type 1} → statement M

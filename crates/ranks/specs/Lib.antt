@@ -1,0 +1,4 @@
+pub mod Ranks
+pub mod Insert
+pub mod InsertLaws
+pub mod RanksLaws
