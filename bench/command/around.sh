@@ -46,7 +46,7 @@ try_any_bytes() {
 		"$root/command/refusals.c" "$root/command/refused_image.c" "$root/command/refused_modules.c" "$root/command/modules.c" "$root/command/refused_sheet.c" "$root/command/refused_handoff.c" \
 		"$root/command/refused_owners.c" "$root/command/owners.c" "$root/command/files.c" "$root/command/text.c" "$root/command/numbers.c" \
 		"$root/command/letters.c" "$root/command/show.c" "$root/command/messages.c" -o "$work/any_bytes" || fail "it does not compile"
-	for image in "$vendor" "$root/crates/audit_runs/data/1/vendor.bin"; do
+	for image in "$vendor" "$root/crates/run_more/data/1/vendor.bin"; do
 		"$work/any_bytes" "$image" "$seed" 3000 2>"$work/err" || fail "ended with $?"
 		passed
 	done

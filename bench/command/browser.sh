@@ -139,15 +139,15 @@ try_browser() {
 	cp "$i/one.sheet" june.sheet
 	cp "$i/two.sheet" july.sheet
 	opened unexplained 1 audit vendor.bin shipped.bin
-	cp "$root/crates/audit_explained/data/shipped.bin" shipped.bin
+	cp "$root/crates/run_explained/data/shipped.bin" shipped.bin
 	opened explained 0 audit vendor.bin shipped.bin
 	cp "$i/released" shipped.bin
 	flip shipped.bin 4197 4198
 	flip shipped.bin 4300 4340
 	flip shipped.bin 6000 6100
 	opened not-as-released 1 verify vendor.bin june.sheet july.sheet shipped.bin
-	cp "$root/crates/audit_short/data/vendor.bin" "a <name> that is long enough to need two lines on a phone, and one without any blank: $(printf '%080d' 7).bin"
-	cp "$root/crates/audit_short/data/shipped.bin" shipped.bin
+	cp "$root/crates/run_short/data/vendor.bin" "a <name> that is long enough to need two lines on a phone, and one without any blank: $(printf '%080d' 7).bin"
+	cp "$root/crates/run_short/data/shipped.bin" shipped.bin
 	opened many 1 audit a*.bin shipped.bin
 	if [ -n "${PAJURENDA_PICTURES-}" ]; then
 		for name in explained unexplained; do cp "$name-1280.png" "$root/$PAJURENDA_PICTURES/report-$name.png"; done

@@ -264,7 +264,7 @@ try_json_names_told() {
 	cd "$i"
 	what='docs/json.md'
 	{
-		run read --json --words --modules "$root/crates/audit_runs/data/1/vendor.bin"
+		run read --json --words --modules "$root/crates/run_more/data/1/vendor.bin"
 		run sheet show --json one.sheet v
 		run audit --json r s || :
 		run verify --json v one.sheet t || :
@@ -284,8 +284,8 @@ cp "$i/released" "$i/t"
 flip "$i/t" 4197 4203
 flip "$i/t" 4998 5001
 flip "$i/t" 6600 6615
-cp "$root/crates/audit_short/data/vendor.bin" "$i/many1"
-cp "$root/crates/audit_short/data/shipped.bin" "$i/many2"
+cp "$root/crates/run_short/data/vendor.bin" "$i/many1"
+cp "$root/crates/run_short/data/shipped.bin" "$i/many2"
 try_read_json
 try_sheet_json
 try_audit_json

@@ -86,7 +86,7 @@ try_word_ranges() {
 
 # 250 settings in a row and 50 strays apart
 try_many_ranges() {
-	data=$root/crates/audit_short/data
+	data=$root/crates/run_short/data
 	works 1 audit --ranges "$data/vendor.bin" "$data/shipped.bin"
 	[ "$(sed -n 5p "$work/out")" = 'S 4128..4377 length 250 region offset 32' ] || fail "the settings are not one range"
 	[ "$(grep -c '^X \([0-9]*\)[.][.]\1 length 1 elsewhere$' "$work/out")" -eq 50 ] || fail "not 50 strays"

@@ -52,7 +52,7 @@ try_audit_page() {
 		'ranges X stray|5000..5000|1|patch word 1|4C|34' 'words base word|128|0xFFF80000|0x00100000|0x00100000' \
 		'words patch word 1|4998|0x12345678|0x124C5678|0x12345678' 'words patch word 3|8188|0xFFF81FF0|0x00101FF0|0x00101FF0' \
 		'marks image settings 1' 'marks image strays 1' 'marks region settings 1' 'marks region strays 0'
-	reported 0 audit "$vendor" "$root/crates/audit_explained/data/shipped.bin"
+	reported 0 audit "$vendor" "$root/crates/run_explained/data/shipped.bin"
 	page_says 'title Audit: explained' 'verdict explained (good)' 'marks image strays 0'
 	reported 0 audit "$vendor" "$o/moved"
 	page_says "because Moved to the shipped base, the maker's image is the shipped file: no byte differs." 'marks image settings 0'

@@ -112,12 +112,12 @@ try_release() {
 # the pairs of the gate: the document's output but for the form of the base; of the last pair its program has no room for all
 try_audit() {
 	for pair in sample:1 explained:0; do
-		data=$root/crates/audit_${pair%:*}
+		data=$root/crates/run_${pair%:*}
 		works "${pair#*:}" audit "$data/data/vendor.bin" "$data/data/shipped.bin"
 		sed 's/^base /base 0x/' "$data/stdout" >"$work/wanted"
 		same "$work/out" "$work/wanted"
 	done
-	data=$root/crates/audit_short/data
+	data=$root/crates/run_short/data
 	works 1 audit "$data/vendor.bin" "$data/shipped.bin"
 	[ "$(sed -n '2,4p' "$work/out" | tr '\n' ' ')" = 'settings 250 strays 50 bits 989 ' ] || fail "other counts"
 	[ "$(grep -c '^S [0-9]*$' "$work/out")" -eq 250 ] || fail "not 250 settings listed"

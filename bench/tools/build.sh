@@ -35,7 +35,7 @@ builds_again() {
 	tells_lines 0
 }
 calls=1
-for file in crates/table/src/lib.rt crates/walk/specs/Differences.antt crates.txt; do
+for file in crates/table/src/lib.rt crates/audit_count/specs/Differences.antt crates.txt; do
 	case $file in
 	*.txt) sed -i 's/^walk: facts/walk:  facts/' "$clone/$file" ;;
 	*) echo >>"$clone/$file" ;;

@@ -3,10 +3,10 @@
 # shellcheck disable=SC2034,SC2154
 
 clone=$work/clone
-sample=$clone/crates/audit_sample
-explained=$clone/crates/audit_explained
-refused=$clone/crates/audit_refused
-short=$clone/crates/audit_short
+sample=$clone/crates/run_sample
+explained=$clone/crates/run_explained
+refused=$clone/crates/run_refused
+short=$clone/crates/run_short
 mkdir "$clone" "$work/stand-in" "$work/compilers" "$work/tmp"
 chmod 1777 "$work/tmp"
 (cd "$root" && cp -R crates crates.txt command include example tools "$clone/")
@@ -48,8 +48,8 @@ staticlib:*)
 	;;
 check:*)
 	mkdir -p target/bin
-	cp "$TRY/program" target/bin/audit_sample
-	echo 'rt: audit_sample proved (0 s)'
+	cp "$TRY/program" target/bin/run_sample
+	echo 'rt: run_sample proved (0 s)'
 	;;
 esac
 END

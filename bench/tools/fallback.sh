@@ -11,15 +11,15 @@ mkdir "$work/no-cc"
 	done
 )
 (cd "$work/no-cc" && rm -f cc gcc gcc-* clang clang-* ./*-gcc ./*-gcc-* ./*-cc c99 c99-gcc c89 c89-gcc tcc apt-get)
-[ -f "$root/target/bin/audit_sample" ] || (cd "$root" && "$rt" check audit_sample) >"$work/out" 2>&1 || { what='rt check audit_sample'; fail "not proved"; }
-cp "$root/target/bin/audit_sample" "$work/program"
+[ -f "$root/target/bin/run_sample" ] || (cd "$root" && "$rt" check run_sample) >"$work/out" 2>&1 || { what='rt check run_sample'; fail "not proved"; }
+cp "$root/target/bin/run_sample" "$work/program"
 afresh
 PATH=$work/stand-in:$work/no-cc
 audit=$clone/tools/audit
 
 # the four pairs of the gate, with the statuses of the command; the program has no room for the last
 for pair in sample:1 explained:0 refused:2 short:2; do
-	data=$clone/crates/audit_${pair%:*}
+	data=$clone/crates/run_${pair%:*}
 	try "${pair#*:}" "$audit" "$data/data/vendor.bin" "$data/data/shipped.bin"
 	prints "$data/stdout"
 	tells_lines 1 'no x86-64 C compiler can be had here'

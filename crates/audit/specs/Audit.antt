@@ -11,12 +11,12 @@ use Rattle.facts.specs.Rules.{answer, rule}
 use Rattle.words.specs.Le.{le}
 use Rattle.words.specs.Put.{putAll}
 use Rattle.header.specs.Base.{legalBase}
-use Rattle.image.specs.Reading.{reading}
-use Rattle.image.specs.After.{afterReading, unlessRefused}
-use Rattle.moving.specs.Moving.{moveTo}
+use Rattle.reading_rules.specs.Reading.{reading}
+use Rattle.reading_rules.specs.After.{afterReading, unlessRefused}
+use Rattle.move_image.specs.Moving.{moveTo}
 use Rattle.audit.specs.declared.Audited.{Audited}
-use Rattle.walk.specs.declared.Counts.{Counts}
-use Rattle.walk.specs.Differences.{differences, settings, strays, bits, entries}
+use Rattle.audit_count.specs.declared.Counts.{Counts}
+use Rattle.audit_count.specs.Differences.{differences, settings, strays, bits, entries}
 
 -- the shipped file's base: what it has where the vendor's base word stands
 abbrev pub shippedBase : List ℕ → List ℕ → ℕ

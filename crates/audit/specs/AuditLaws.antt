@@ -14,21 +14,21 @@ use Rattle.facts.specs.Fact.{Fact, Holds, _≤?_, _≡?_, deny, _and_, test, pa
 use Rattle.facts.specs.Rules.{Rules, rule, answer, run, passed, by-test}
 use Rattle.words.specs.Put.{putAll}
 use Rattle.header.specs.Base.{legalBase}
-use Rattle.image.specs.Reading.{reading}
-use Rattle.image.specs.After.{unlessRefused, after-accepted, after-refused, changed-so, kept-so}
-use Rattle.image.specs.Guarantee.{guaranteed}
-use Rattle.image.specs.Numbers.{Numbered, after-every, numbered-own, own-number, own-zero}
-use Rattle.moving.specs.Moves.{difference}
-use Rattle.relocate.specs.Widths.{moved-by-width}
-use Rattle.image.specs.Words.{wordsOf}
-use Rattle.image.specs.WordsLaws.{widths}
-use Rattle.moving.specs.Moving.{moveTo}
+use Rattle.reading_rules.specs.Reading.{reading}
+use Rattle.reading_rules.specs.After.{unlessRefused, after-accepted, after-refused, changed-so, kept-so}
+use Rattle.reading_rules.specs.Guarantee.{guaranteed}
+use Rattle.reading_rules.specs.Numbers.{Numbered, after-every, numbered-own, own-number, own-zero}
+use Rattle.move_image.specs.Moves.{difference}
+use Rattle.move_modules.specs.Widths.{moved-by-width}
+use Rattle.reading_rules.specs.Words.{wordsOf}
+use Rattle.reading_rules.specs.WordsLaws.{widths}
+use Rattle.move_image.specs.Moving.{moveTo}
 use Rattle.audit.specs.declared.Audited.{Audited}
-use Rattle.walk.specs.declared.Counts.{Counts}
-use Rattle.walk.specs.Differences.{differences, settings, strays, bits, entries, countsOf}
+use Rattle.audit_count.specs.declared.Counts.{Counts}
+use Rattle.audit_count.specs.Differences.{differences, settings, strays, bits, entries, countsOf}
 use Rattle.audit.specs.Audit.{shippedBase, reference, differing, refusedAudit, carried, tally, auditing, listed, listedBytes, listing}
-use Rattle.stride.specs.Stride.{by}
-use Rattle.walk.specs.DifferenceLaws.{counts}
+use Rattle.audit_step.specs.Stride.{by}
+use Rattle.audit_count.specs.DifferenceLaws.{counts}
 
 -- the reference, as the walk moves each word
 pub by-reference : (xs ys : List ℕ) (four eight : ℕ) → reading xs .number ≡ 0

@@ -1,12 +1,12 @@
 // Document 01, "The audit".
-use image::Reading;
-use walk::Counts;
+use audit_count::Counts;
+use reading_rules::Reading;
 ghost use mathlib.Core.Path.{_≡_};
 ghost use Prim.Native.Nat.{_*_, _/_, _≤_, _<_};
 ghost use lib.ListN.{length};
 ghost use Rattle.facts.specs.Fact.{Holds, Tells};
 ghost use Rattle.header.specs.Base.{legalBase};
-ghost use Rattle.image.specs.Reading.{reading};
+ghost use Rattle.reading_rules.specs.Reading.{reading};
 ghost use Rattle.audit.specs.Audit.{shippedBase, refusedAudit, carried, tally, auditing, listing, Audits, AuditsBytes};
 
 // The answer of an audit: number 0 or 20 and the base and counts, or another refusal's number and index and zeros.
@@ -54,9 +54,9 @@ fn tell(vendor: &[u8], shipped: &[u8], r: Reading, base: u64, room: usize) -> Au
         × (base ≡ shippedBase (now vendor) (now shipped)) × Holds (legalBase (length (now vendor)) base) ⌝ }
     ensures { λ a. ⌜ a ≡ tally (now (vendor .entry)) (now (shipped .entry)) room ⌝ }
 {
-    let four = moving::modular_difference(r.base, base);
-    let eight = relocate::wide_difference(r.base, base);
-    let t = walk::count_all(vendor, shipped, r, four, eight);
+    let four = move_image::modular_difference(r.base, base);
+    let eight = move_modules::wide_difference(r.base, base);
+    let t = audit_count::count_all(vendor, shipped, r, four, eight);
     if room < t.settings + t.strays {
         return carry(20, base, t, false);
     }
@@ -106,9 +106,9 @@ pub fn audit(vendor: &[u8], shipped: &[u8], places: &mut [u32]) -> Audited
     if !lists(a) {
         return a;
     }
-    let four = moving::modular_difference(r.base, a.base);
-    let eight = relocate::wide_difference(r.base, a.base);
-    fill::fill_all(vendor, shipped, places, r, four, eight);
+    let four = move_image::modular_difference(r.base, a.base);
+    let eight = move_modules::wide_difference(r.base, a.base);
+    audit_list::fill_all(vendor, shipped, places, r, four, eight);
     a
 }
 
@@ -121,8 +121,8 @@ pub fn audit_bytes(vendor: &[u8], shipped: &[u8], places: &mut [u8]) -> Audited
     if !lists(a) {
         return a;
     }
-    let four = moving::modular_difference(r.base, a.base);
-    let eight = relocate::wide_difference(r.base, a.base);
-    fill_bytes::fill_all(vendor, shipped, places, r, four, eight);
+    let four = move_image::modular_difference(r.base, a.base);
+    let eight = move_modules::wide_difference(r.base, a.base);
+    audit_list_bytes::fill_all(vendor, shipped, places, r, four, eight);
     a
 }

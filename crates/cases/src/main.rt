@@ -25,12 +25,12 @@ fn line() {
     io::write_all(STDOUT_FILENO, b"\n");
 }
 
-fn names(k: image::Identity) {
+fn names(k: reading_rules::Identity) {
     field(k.image);
     field(k.revision as u64);
 }
 
-fn places(r: image::Reading) {
+fn places(r: reading_rules::Reading) {
     field(r.base);
     field(r.c as u64);
     field(r.z as u64);
@@ -38,7 +38,7 @@ fn places(r: image::Reading) {
     field(r.E as u64);
 }
 
-fn show_reading(r: image::Reading) {
+fn show_reading(r: reading_rules::Reading) {
     io::print_decimal(STDOUT_FILENO, r.number as u64);
     field(r.index as u64);
     field(r.H as u64);
@@ -50,14 +50,14 @@ fn show_reading(r: image::Reading) {
     line();
 }
 
-fn show_move(m: moving::Moved) {
+fn show_move(m: move_image::Moved) {
     io::print_decimal(STDOUT_FILENO, m.number as u64);
     field(m.index as u64);
     io::write_all(STDOUT_FILENO, b" ");
     if m.distance < 0 {
         io::write_all(STDOUT_FILENO, b"-");
     }
-    io::print_decimal(STDOUT_FILENO, moving::magnitude(m.distance));
+    io::print_decimal(STDOUT_FILENO, move_image::magnitude(m.distance));
     line();
 }
 
@@ -74,9 +74,9 @@ fn call_release(image: &mut [u8], sheet: &[u8], base: u64, owners: &[u8], owner:
 fn call_setting(image: &[u8], offset: u64, size: u64) {
     io::print_decimal(
         STDOUT_FILENO,
-        lookup::setting_number(image, offset, size) as u64,
+        setting::setting_number(image, offset, size) as u64,
     );
-    let part = lookup::setting(image, offset, size);
+    let part = setting::setting(image, offset, size);
     field(part.len() as u64);
     line();
     show_bytes(part);

@@ -1,2 +1,5 @@
-pub mod Contents
-pub mod ContentsLaws
+pub mod Listing
+pub mod ListingLaws
+pub mod Filling
+pub mod Theorems
+pub mod Small

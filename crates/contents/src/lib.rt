@@ -1,107 +1,114 @@
-// Request #107: rules 25, 26 and 27 of all that the first volume contains.
-use front::Front;
+// Request #107: what an image holds, as a list that the caller lends: every word of a move, and each module with its file and its section.
+use inside_list::Counts;
+use reading_rules::Reading;
 ghost use mathlib.Core.Path.{_≡_};
-ghost use Prim.Native.Nat.{ℕ, _+_, _*_, _≤_, _<_};
+ghost use Prim.Native.Nat.{_+_, _*_, _≤_};
 ghost use lib.ListN.{length};
-ghost use Rattle.facts.specs.Fact.{Tells, Holds};
-ghost use Rattle.table.specs.Passes.{place};
-ghost use Rattle.items.specs.Items.{apartFrom};
-ghost use Rattle.front.specs.Fronts.{Ordered};
-ghost use Rattle.whole.specs.Whole.{walked};
-ghost use Rattle.whole.specs.Walkable.{Walkable};
-ghost use Rattle.sound.specs.Rules.{patchItems};
-ghost use Rattle.clear.specs.Windows.{Ready};
-ghost use Rattle.contents.specs.Contents.{contentsNumber, Entries};
-ghost use Rattle.contents.specs.ContentsLaws.{Lower, Around};
+ghost use Rattle.words.specs.Put.{putAll};
+ghost use Rattle.inside_judge.specs.Rules.{patchItems};
+ghost use Rattle.reading_rules.specs.Reading.{entriesAt, reading};
+ghost use Rattle.reading_rules.specs.Guarantee.{Guaranteed};
+ghost use Rattle.inside_list.specs.Inventory.{countsOf};
+ghost use Rattle.contents.specs.Listing.{coded, entriesFor, refusedList, counted, contents, Lists};
 
-fn upper(x: usize, y: usize) -> usize
-    requires { ⌜ (x ≤ 16777216) × (y ≤ 16777216) ⌝ }
-    ensures { λ r. ⌜ (x ≤ r) × (y ≤ r) × (r ≤ 16777216) ⌝ }
-{
-    if x < y {
-        return y;
-    }
-    x
+// The answer: number 0 or 20 and the counts, or another refusal's number and index and zeros.
+pub struct Listed {
+    pub number: u32,
+    pub index: usize,
+    pub modules: usize,
+    pub words: usize,
+    pub entries: usize,
 }
 
-fn lower(x: usize, y: usize) -> usize
-    ensures { λ r. ⌜ Lower x y r ⌝ }
+fn refused(number: u32, index: usize) -> Listed
+    ensures { λ r. ⌜ r ≡ refusedList number index ⌝ }
 {
-    if x < y {
-        return x;
+    Listed {
+        number,
+        index,
+        modules: 0,
+        words: 0,
+        entries: 0,
     }
-    y
 }
 
-// The frontier that the patch words make: they lie from its high up to its top, and where there are none both are 0.
-fn around(image: &[u8], t: usize, n: usize) -> Front
-    requires { ⌜ (t + 4 * n ≤ length (now image)) × ((i : ℕ) → i < n → place (now image) t i .number ≡ 0) × (length (now image) ≤ 16777216) ⌝ }
-    ensures { λ r. ⌜ Around (now (image .entry)) t n r ⌝ }
+fn carry(number: u32, n: Counts) -> Listed
+    ensures { λ r. ⌜ r ≡ counted number n ⌝ }
 {
-    let mut low = image.len();
-    let mut top = 0;
+    Listed {
+        number,
+        index: 0,
+        modules: n.modules,
+        words: n.words,
+        entries: n.entries,
+    }
+}
+
+// The counts of an image that reads so: the modules', and a word more for each that the tables name.
+fn count_all(image: &[u8], r: Reading) -> Counts
+    requires { ⌜ Guaranteed (now image) r ⌝ }
+    ensures { λ n. ⌜ n ≡ countsOf (entriesFor (now (image .entry)) r) ⌝ }
+{
+    let v = words::le64(image, 32);
+    let n = inside_list::count(image, v, r.H - 28);
+    let k = r.n + 1;
+    Counts {
+        modules: n.modules,
+        words: n.words + k,
+        entries: n.entries + k,
+    }
+}
+
+// The whole answer for a list of `room` bytes, before anything is listed.
+fn survey(image: &[u8], r: Reading, room: usize) -> Listed
+    requires { ⌜ r ≡ reading (now image) ⌝ }
+    ensures { λ a. ⌜ a ≡ contents (now (image .entry)) room ⌝ }
+{
+    if r.number != 0 {
+        return refused(r.number, r.index);
+    }
+    let n = count_all(image, r);
+    if room < 4 * n.entries {
+        return carry(20, n);
+    }
+    carry(0, n)
+}
+
+// The patch words, after the base word. An entry is four bytes of the list.
+fn fill_patches(image: &[u8], places: &mut [u8], r: Reading)
+    requires { ⌜ Guaranteed (now image) r × (4 * r .n + 4 ≤ length (now places)) ⌝ }
+    ensures { λ _. ⌜ now (places .exit) ≡ putAll 4 (now (places .entry)) 4 (coded 8 (patchItems (now (image .entry)) (entriesAt r) (r .n))) ⌝ }
+{
+    let n = r.n;
+    let t = r.E - 4 * n;
     let mut i = 0;
     while i < n {
-        let p = table::spot_at(image, t, i);
-        low = lower(low, p);
-        top = upper(top, p + 4);
+        let at = table::spot_at(image, t, i);
+        words::put32(places, 4 * i + 4, inside_list::entry_of(8, at));
         i += 1;
     }
-    Front {
-        low: 0,
-        high: lower(low, top),
-        top,
-    }
 }
 
-// Whether the words lie apart: it is known where all came in order, and windows tell elsewhere.
-fn are_apart(
-    image: &[u8],
-    v: usize,
-    f: usize,
-    t: usize,
-    n: usize,
-    E: usize,
-    top: usize,
-    front: Front,
-) -> bool
-    requires { ⌜ Ready (now image) v f t n E top × (Ordered front → Holds (apartFrom (patchItems (now image) t n) (walked (now image) v f))) ⌝ }
-    ensures { λ r. ⌜ Tells r (apartFrom (patchItems (now (image .entry)) t n) (walked (now (image .entry)) v f)) ⌝ }
+// Every entry: the base word, the patch words, the modules.
+fn fill_all(image: &[u8], places: &mut [u8], r: Reading)
+    requires { ⌜ Guaranteed (now image) r × (4 * length (entriesFor (now image) r) ≤ length (now places)) ⌝ }
+    ensures { λ _. ⌜ now (places .exit) ≡ putAll 4 (now (places .entry)) 0 (entriesFor (now (image .entry)) r) ⌝ }
 {
-    if front::is_ordered(front) {
-        return true;
-    }
-    clear::words_apart(image, v, f, t, n, E, top)
+    words::put32(places, 0, inside_list::entry_of(7, r.H + 28));
+    fill_patches(image, places, r);
+    let v = words::le64(image, 32);
+    inside_list::fill(image, v, r.H - 28, places, r.n + 1);
 }
 
-// The number of the first of the three rules that isn't passed, or 0.
-pub fn contents_number(
-    image: &[u8],
-    v: usize,
-    f: usize,
-    t: usize,
-    n: usize,
-    c: usize,
-    z: usize,
-) -> u32
-    requires { ⌜ Walkable (now image) v f × Entries (now image) t n c z × (c + z ≤ length (now image)) ⌝ }
-    ensures { λ r. ⌜ r ≡ contentsNumber (now (image .entry)) v f t n c z ⌝ }
+// Lists what an image holds, whatever its bytes are; or a refusal that changes nothing.
+pub fn list_contents(image: &[u8], places: &mut [u8]) -> Listed
+    ensures { λ a. ⌜ Lists (now (image .entry)) (now (places .entry)) a (now (places .exit)) ⌝ }
 {
-    let E = t + 4 * n;
-    let start = around(image, t, n);
-    let j = sound::judge(image, v, f, E, c, z, start);
-    if !j.whole {
-        return 25;
+    let r = reading::read(image);
+    let a = survey(image, r, places.len());
+    if a.number != 0 {
+        return a;
     }
-    if !j.placed {
-        return 26;
-    }
-    let top = upper(lower(j.top, image.len()), start.top);
-    if !are_apart(image, v, f, t, n, E, top, j.front) {
-        return 26;
-    }
-    if !j.known {
-        return 27;
-    }
-    0
+    fill_all(image, places, r);
+    a
 }

@@ -8,7 +8,7 @@ use lib.ListN.{length}
 use Rattle.facts.specs.Fact.{Holds}
 use Rattle.words.specs.Le.{Bytes}
 use Rattle.header.specs.Base.{legalBase}
-use Rattle.image.specs.Reading.{reading}
+use Rattle.reading_rules.specs.Reading.{reading}
 use Rattle.audit.specs.Audit.{shippedBase, differing, auditing}
 use Rattle.demands.specs.Explains.{Explains}
 use Rattle.demands.specs.Explained.{explains-base, explains-told, told-counts}

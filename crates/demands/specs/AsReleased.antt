@@ -9,19 +9,19 @@ use native.Mathlib.Decide.{decLt, ℕ-discrete}
 use lib.ListN.{length, getD}
 use lib.Seq.{ext-getD}
 use Rattle.words.specs.Le.{Bytes}
-use Rattle.image.specs.declared.Reading.{Reading}
-use Rattle.image.specs.Reading.{reading}
-use Rattle.image.specs.Guarantee.{guaranteed}
-use Rattle.image.specs.Small.{small, settingBytes}
-use Rattle.moving.specs.declared.Moved.{Moved}
-use Rattle.moving.specs.Moving.{movedImage}
+use Rattle.reading_rules.specs.declared.Reading.{Reading}
+use Rattle.reading_rules.specs.Reading.{reading}
+use Rattle.reading_rules.specs.Guarantee.{guaranteed}
+use Rattle.reading_rules.specs.Small.{small, settingBytes}
+use Rattle.move_image.specs.declared.Moved.{Moved}
+use Rattle.move_image.specs.Moving.{movedImage}
 use Rattle.sheet.specs.Small.{sample}
-use Rattle.steps.specs.MoveStep.{moved-nowhere}
+use Rattle.release_steps.specs.MoveStep.{moved-nowhere}
 use Rattle.release.specs.Release.{releasing, releasedImage, Releases}
-use Rattle.released.specs.Theorems.{released-fits, released-reads, bytes-released}
-use Rattle.released.specs.Small.{two}
-use Rattle.walk.specs.Differences.{settings, strays}
-use Rattle.walk.specs.DifferenceLaws.{counts}
+use Rattle.release_laws.specs.Theorems.{released-fits, released-reads, bytes-released}
+use Rattle.release_laws.specs.Small.{two}
+use Rattle.audit_count.specs.Differences.{settings, strays}
+use Rattle.audit_count.specs.DifferenceLaws.{counts}
 use Rattle.audit.specs.declared.Audited.{Audited}
 use Rattle.audit.specs.Audit.{shippedBase, reference, differing, auditing, Audits}
 use Rattle.audit.specs.AuditLaws.{Accepted, audit-accepted}

@@ -12,30 +12,30 @@ use Rattle.facts.specs.Fact.{Holds}
 use Rattle.facts.specs.Rules.{run, by-test}
 use Rattle.words.specs.Le.{le, Bytes}
 use Rattle.header.specs.Base.{legalBase}
-use Rattle.image.specs.declared.Reading.{Reading}
-use Rattle.image.specs.Reading.{rebased, reading, Reads}
-use Rattle.image.specs.Guarantee.{guaranteed}
-use Rattle.image.specs.Numbers.{Numbered, None, numbered}
-use Rattle.moving.specs.declared.Moved.{Moved}
-use Rattle.moving.specs.Moves.{difference, Beside}
-use Rattle.moving.specs.Moving.{movedWords, acceptedMove, movedImage}
+use Rattle.reading_rules.specs.declared.Reading.{Reading}
+use Rattle.reading_rules.specs.Reading.{rebased, reading, Reads}
+use Rattle.reading_rules.specs.Guarantee.{guaranteed}
+use Rattle.reading_rules.specs.Numbers.{Numbered, None, numbered}
+use Rattle.move_image.specs.declared.Moved.{Moved}
+use Rattle.move_image.specs.Moves.{difference, Beside}
+use Rattle.move_image.specs.Moving.{movedWords, acceptedMove, movedImage}
 use Rattle.sheet.specs.declared.SheetReading.{SheetReading}
 use Rattle.sheet.specs.Sheet.{count, offset, size, bodyAt, sheetFits}
 use Rattle.sheet.specs.ReadSheet.{sheetReading, ReadsSheet}
 use Rattle.sheet.specs.Set.{fieldsOf, setImage}
-use Rattle.lookup.specs.Setting.{NumberOf}
-use Rattle.lookup.specs.Theorems.{OwnLookup, lookup-numbered}
-use Rattle.steps.specs.SetStep.{Within}
+use Rattle.setting.specs.Setting.{NumberOf}
+use Rattle.setting.specs.Theorems.{OwnLookup, lookup-numbered}
+use Rattle.release_steps.specs.SetStep.{Within}
 use Rattle.release.specs.Release.{releasing, releasedImage, Releases}
 use Rattle.release.specs.ReleaseLaws.{Releasable, release-kept, release-shows, release-accepted}
-use Rattle.released.specs.Theorems.{OwnRelease, release-numbered, released-fits, set-then-moved, moved-then-set, released-reads, released-entry, released-word, released-other, entry-beside, empty-moves, present-sets, there-and-back}
-use Rattle.listing.specs.declared.Listed.{Listed}
-use Rattle.listing.specs.Listing.{Lists}
-use Rattle.listing.specs.Theorems.{OwnList, listing-numbered, contents-kept}
+use Rattle.release_laws.specs.Theorems.{OwnRelease, release-numbered, released-fits, set-then-moved, moved-then-set, released-reads, released-entry, released-word, released-other, entry-beside, empty-moves, present-sets, there-and-back}
+use Rattle.contents.specs.declared.Listed.{Listed}
+use Rattle.contents.specs.Listing.{Lists}
+use Rattle.contents.specs.Theorems.{OwnList, listing-numbered, contents-kept}
 use Rattle.audit.specs.declared.Audited.{Audited}
 use Rattle.audit.specs.Audit.{shippedBase, reference, differing, auditing, Audits, AuditsBytes}
 use Rattle.audit.specs.AuditLaws.{OwnAudit, audit-numbered, list-kept, bytes-kept, Accepted, audit-accepted, names, fits}
-use Rattle.walk.specs.Differences.{entry, settings, strays, bits}
+use Rattle.audit_count.specs.Differences.{entry, settings, strays, bits}
 use Rattle.demands.specs.Explains.{Turns}
 use Rattle.demands.specs.Made.{Made, start, then, made-explains}
 use Rattle.demands.specs.Always.{made-explained}

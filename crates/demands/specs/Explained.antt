@@ -15,17 +15,17 @@ use Rattle.facts.specs.Rules.{by-test}
 use Rattle.words.specs.Le.{le, Bytes}
 use Rattle.words.specs.LeLaws.{le-cong}
 use Rattle.header.specs.Base.{legalBase}
-use Rattle.image.specs.declared.Reading.{Reading}
-use Rattle.image.specs.Reading.{reading}
-use Rattle.image.specs.After.{changed-so, kept-so}
-use Rattle.image.specs.Guarantee.{guaranteed}
-use Rattle.moving.specs.Moving.{movedImage}
-use Rattle.steps.specs.MoveStep.{length-after, moved-reads}
+use Rattle.reading_rules.specs.declared.Reading.{Reading}
+use Rattle.reading_rules.specs.Reading.{reading}
+use Rattle.reading_rules.specs.After.{changed-so, kept-so}
+use Rattle.reading_rules.specs.Guarantee.{guaranteed}
+use Rattle.move_image.specs.Moving.{movedImage}
+use Rattle.release_steps.specs.MoveStep.{length-after, moved-reads}
 use Rattle.sheet.specs.PartLaws.{length-joined, joined-low, joined-mid, joined-high}
 use Rattle.sheet.specs.Set.{joined}
 use Rattle.audit.specs.declared.Audited.{Audited}
-use Rattle.walk.specs.Differences.{agrees, differences, setting, entry, settings, strays, bits, entries}
-use Rattle.walk.specs.DifferenceLaws.{counts, length-entries}
+use Rattle.audit_count.specs.Differences.{agrees, differences, setting, entry, settings, strays, bits, entries}
+use Rattle.audit_count.specs.DifferenceLaws.{counts, length-entries}
 use Rattle.audit.specs.Audit.{shippedBase, reference, differing, tally, auditing, listed}
 use Rattle.audit.specs.AuditLaws.{audit-told}
 use Rattle.demands.specs.Explains.{Turns, Explains}

@@ -7,8 +7,8 @@ use mathlib.Core.Path.{_≡_}
 use lib.ListN.{length, getD}
 use Rattle.facts.specs.Fact.{Holds}
 use Rattle.header.specs.Base.{legalBase}
-use Rattle.image.specs.Reading.{reading}
-use Rattle.moving.specs.Moving.{movedImage}
+use Rattle.reading_rules.specs.Reading.{reading}
+use Rattle.move_image.specs.Moving.{movedImage}
 use Rattle.sheet.specs.Set.{joined}
 
 -- this legal base and these setting bytes, c+32..c+z-1, turn xs into ys

@@ -18,24 +18,24 @@ use Rattle.words.specs.LeLaws.{le-cong}
 use Rattle.words.specs.PutLaws.{le-one}
 use Rattle.table.specs.PassesLaws.{place-cong}
 use Rattle.table.specs.declared.Place.{Place}
-use Rattle.image.specs.declared.Reading.{Reading}
-use Rattle.image.specs.Words.{met}
-use Rattle.image.specs.Reading.{entriesAt, rebased, reading}
-use Rattle.image.specs.Guarantee.{guaranteed}
-use Rattle.moving.specs.declared.Moved.{Moved}
-use Rattle.moving.specs.Moves.{difference, Beside}
-use Rattle.moving.specs.MovesLaws.{find}
-use Rattle.moving.specs.Moving.{movedWords}
-use Rattle.moving.specs.MovingLaws.{same-words}
-use Rattle.image.specs.WordsLaws.{words-outside, beside}
+use Rattle.reading_rules.specs.declared.Reading.{Reading}
+use Rattle.reading_rules.specs.Words.{met}
+use Rattle.reading_rules.specs.Reading.{entriesAt, rebased, reading}
+use Rattle.reading_rules.specs.Guarantee.{guaranteed}
+use Rattle.move_image.specs.declared.Moved.{Moved}
+use Rattle.move_image.specs.Moves.{difference, Beside}
+use Rattle.move_image.specs.MovesLaws.{find}
+use Rattle.move_image.specs.Moving.{movedWords}
+use Rattle.move_image.specs.MovingLaws.{same-words}
+use Rattle.reading_rules.specs.WordsLaws.{words-outside, beside}
 use Rattle.sheet.specs.Sheet.{count, offset, size, bodyAt}
 use Rattle.sheet.specs.Set.{fieldsOf, setImage}
 use Rattle.owners.specs.Owners.{ranges, rangeAt, rangeEnd, holdsByte, listFits, owned}
 use Rattle.owners.specs.OwnersLaws.{ranges-ascend}
-use Rattle.steps.specs.SetStep.{Within, unset-byte, length-after-set, bytes-after-set, set-reads, read-after}
+use Rattle.release_steps.specs.SetStep.{Within, unset-byte, length-after-set, bytes-after-set, set-reads, read-after}
 use Rattle.release.specs.Release.{releasing, releasedImage}
 use Rattle.release.specs.ReleaseLaws.{Releasable, release-kept, release-shows}
-use Rattle.released.specs.Theorems.{released-reads, length-released, bytes-released, released-entry, released-word, released-other, present-sets}
+use Rattle.release_laws.specs.Theorems.{released-reads, length-released, bytes-released, released-entry, released-word, released-other, present-sets}
 
 -- a release that somebody asks for
 pub record Call : Type 0 where

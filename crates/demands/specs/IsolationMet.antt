@@ -13,18 +13,18 @@ use Rattle.facts.specs.Rules.{run}
 use Rattle.words.specs.Le.{le, Bytes}
 use Rattle.words.specs.Put.{digit}
 use Rattle.words.specs.Number.{number, zeros}
-use Rattle.image.specs.declared.Reading.{Reading}
-use Rattle.image.specs.Reading.{rebased, reading}
-use Rattle.image.specs.After.{afterReading}
-use Rattle.image.specs.Small.{small, settingBytes, small-reads}
-use Rattle.moving.specs.declared.Moved.{Moved}
-use Rattle.moving.specs.Moving.{refusedMove}
+use Rattle.reading_rules.specs.declared.Reading.{Reading}
+use Rattle.reading_rules.specs.Reading.{rebased, reading}
+use Rattle.reading_rules.specs.After.{afterReading}
+use Rattle.reading_rules.specs.Small.{small, settingBytes, small-reads}
+use Rattle.move_image.specs.declared.Moved.{Moved}
+use Rattle.move_image.specs.Moving.{refusedMove}
 use Rattle.sheet.specs.Sheet.{bodyAt}
 use Rattle.sheet.specs.Small.{sample}
 use Rattle.release.specs.Release.{nameRules, releaseRules, releasing, releasedImage}
 use Rattle.release.specs.ReleaseLaws.{release-kept}
-use Rattle.released.specs.Small.{two}
-use Rattle.released.specs.Theorems.{released-reads, length-released, bytes-released}
+use Rattle.release_laws.specs.Small.{two}
+use Rattle.release_laws.specs.Theorems.{released-reads, length-released, bytes-released}
 use Rattle.demands.specs.Met.{bytes-so, maker-bytes, maker-reads, sample-bytes}
 use Rattle.demands.specs.Isolation.{Call, afterAll, answers, answersBut, without, Keeps, SheetBytes, Isolated, isolation}
 

@@ -12,21 +12,21 @@ use Rattle.words.specs.Le.{le, Bytes, Alike}
 use Rattle.words.specs.LeLaws.{le-cong}
 use Rattle.words.specs.PutLaws.{le-one}
 use Rattle.header.specs.Base.{legalBase}
-use Rattle.image.specs.declared.Reading.{Reading}
-use Rattle.image.specs.Words.{met}
-use Rattle.image.specs.Reading.{rebased, reading}
-use Rattle.image.specs.Guarantee.{guaranteed}
-use Rattle.image.specs.WordsLaws.{words-outside}
-use Rattle.image.specs.FrameBut.{AlikeBut, frame-but}
-use Rattle.moving.specs.Moves.{difference, Beside}
-use Rattle.moving.specs.MovesLaws.{find}
-use Rattle.moving.specs.Moving.{movedWords, movedImage}
-use Rattle.moving.specs.MovingLaws.{same-words}
+use Rattle.reading_rules.specs.declared.Reading.{Reading}
+use Rattle.reading_rules.specs.Words.{met}
+use Rattle.reading_rules.specs.Reading.{rebased, reading}
+use Rattle.reading_rules.specs.Guarantee.{guaranteed}
+use Rattle.reading_rules.specs.WordsLaws.{words-outside}
+use Rattle.reading_rules.specs.FrameBut.{AlikeBut, frame-but}
+use Rattle.move_image.specs.Moves.{difference, Beside}
+use Rattle.move_image.specs.MovesLaws.{find}
+use Rattle.move_image.specs.Moving.{movedWords, movedImage}
+use Rattle.move_image.specs.MovingLaws.{same-words}
 use Rattle.sheet.specs.Set.{setImage, Fits}
-use Rattle.steps.specs.MoveStep.{unmoved-byte, moved-number, length-after, bytes-after, moved-reads, moved-on, moved-nowhere}
-use Rattle.steps.specs.SetStep.{kept-outside, length-after-set, bytes-after-set}
+use Rattle.release_steps.specs.MoveStep.{unmoved-byte, moved-number, length-after, bytes-after, moved-reads, moved-on, moved-nowhere}
+use Rattle.release_steps.specs.SetStep.{kept-outside, length-after-set, bytes-after-set}
 use Rattle.release.specs.Release.{releasing, releasedImage}
-use Rattle.released.specs.Theorems.{released-fits, released-legal, set-then-moved, bytes-released}
+use Rattle.release_laws.specs.Theorems.{released-fits, released-legal, set-then-moved, bytes-released}
 use Rattle.demands.specs.Explains.{Explains}
 
 -- the byte at k lies outside the settings part

@@ -13,20 +13,20 @@ use Rattle.facts.specs.Fact.{Holds}
 use Rattle.words.specs.Le.{le, Bytes}
 use Rattle.words.specs.LeLaws.{le-lt}
 use Rattle.header.specs.HeaderLaws.{extended-small}
-use Rattle.image.specs.declared.Identity.{Identity}
-use Rattle.image.specs.declared.Reading.{Reading}
-use Rattle.image.specs.Reading.{identityAt, rebased, reading}
-use Rattle.image.specs.Guarantee.{Guaranteed, guaranteed}
-use Rattle.moving.specs.Moving.{movedImage}
+use Rattle.reading_rules.specs.declared.Identity.{Identity}
+use Rattle.reading_rules.specs.declared.Reading.{Reading}
+use Rattle.reading_rules.specs.Reading.{identityAt, rebased, reading}
+use Rattle.reading_rules.specs.Guarantee.{Guaranteed, guaranteed}
+use Rattle.move_image.specs.Moving.{movedImage}
 use Rattle.sheet.specs.Sheet.{sheetIdentity, count, offset, size, bodyAt, sameIdentity, Sound}
 use Rattle.sheet.specs.Set.{setImage, Fits}
 use Rattle.owners.specs.Owners.{listFits, fieldsOwned}
-use Rattle.steps.specs.MoveStep.{length-after, moved-reads}
-use Rattle.steps.specs.SetStep.{length-after-set, kept-outside, set-byte, set-empty}
-use Rattle.steps.specs.TwoSteps.{fits-moved}
+use Rattle.release_steps.specs.MoveStep.{length-after, moved-reads}
+use Rattle.release_steps.specs.SetStep.{length-after-set, kept-outside, set-byte, set-empty}
+use Rattle.release_steps.specs.TwoSteps.{fits-moved}
 use Rattle.release.specs.Release.{releasing, releasedImage}
 use Rattle.release.specs.ReleaseLaws.{release-goes}
-use Rattle.released.specs.Theorems.{moved-then-set}
+use Rattle.release_laws.specs.Theorems.{moved-then-set}
 use Rattle.demands.specs.Explains.{Explains}
 use Rattle.demands.specs.Lists.{all-to-1, all-good, all-owned, empty-good}
 use Rattle.demands.specs.Sheets.{whole, whole-names, whole-count, whole-byte, whole-offset, whole-size, whole-sound, whole-bytes, bare, bare-names, bare-count, bare-sound, bare-bytes}

@@ -1,4 +1,4 @@
--- The demands speak of something: the small image meets their premises, and what they say of it is computed (`Small` in `released` and
+-- The demands speak of something: the small image meets their premises, and what they say of it is computed (`Small` in `release_laws` and
 -- `audit`).
 -- Assumes nothing.
 use Prim.Native.Nat.{ℕ, zero, suc, _+_, _<_}
@@ -15,13 +15,13 @@ use Rattle.words.specs.Le.{le, Bytes}
 use Rattle.words.specs.Put.{digit}
 use Rattle.words.specs.Number.{number, zeros}
 use Rattle.header.specs.Base.{legalBase}
-use Rattle.image.specs.declared.Reading.{Reading}
-use Rattle.image.specs.Reading.{reading}
-use Rattle.image.specs.Small.{small, settingBytes, small-reads}
-use Rattle.moving.specs.declared.Moved.{Moved}
+use Rattle.reading_rules.specs.declared.Reading.{Reading}
+use Rattle.reading_rules.specs.Reading.{reading}
+use Rattle.reading_rules.specs.Small.{small, settingBytes, small-reads}
+use Rattle.move_image.specs.declared.Moved.{Moved}
 use Rattle.sheet.specs.Small.{sample}
 use Rattle.release.specs.Release.{releasing, releasedImage}
-use Rattle.released.specs.Small.{two, small-release, small-released}
+use Rattle.release_laws.specs.Small.{two, small-release, small-released}
 use Rattle.demands.specs.Made.{Made, start, then}
 use Rattle.audit.specs.Audit.{shippedBase}
 use Rattle.audit.specs.Small.{shipped}

@@ -12,15 +12,15 @@ use Rattle.words.specs.Le.{le}
 use Rattle.table.specs.Entry.{reservedFits}
 use Rattle.table.specs.EntryLaws.{spot-of}
 use Rattle.table.specs.Passes.{place}
-use Rattle.image.specs.declared.Reading.{Reading}
-use Rattle.image.specs.Reading.{refusal, entriesAt, reading, Reads}
-use Rattle.image.specs.Guarantee.{guaranteed}
-use Rattle.moving.specs.declared.Moved.{Moved}
-use Rattle.moving.specs.Moving.{refusedMove}
+use Rattle.reading_rules.specs.declared.Reading.{Reading}
+use Rattle.reading_rules.specs.Reading.{refusal, entriesAt, reading, Reads}
+use Rattle.reading_rules.specs.Guarantee.{guaranteed}
+use Rattle.move_image.specs.declared.Moved.{Moved}
+use Rattle.move_image.specs.Moving.{refusedMove}
 use Rattle.release.specs.Release.{releasing, Releases}
 use Rattle.release.specs.ReleaseLaws.{release-kept, release-unread, release-shows}
-use Rattle.lookup.specs.Setting.{NumberOf}
-use Rattle.lookup.specs.SettingLaws.{setting-unread, setting-passed}
+use Rattle.setting.specs.Setting.{NumberOf}
+use Rattle.setting.specs.SettingLaws.{setting-unread, setting-passed}
 use Rattle.audit.specs.declared.Audited.{Audited}
 use Rattle.audit.specs.Audit.{refusedAudit, auditing, Audits, AuditsBytes}
 use Rattle.audit.specs.AuditLaws.{audit-unread, audit-accepted, list-kept, bytes-kept}

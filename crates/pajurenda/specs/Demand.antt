@@ -10,22 +10,22 @@ use native.Mathlib.Omega.{arith}
 use native.Mathlib.Decide.{decLt}
 use lib.ListN.{length}
 use Rattle.facts.specs.Rules.{run, by-test}
-use Rattle.image.specs.Reading.{reading}
-use Rattle.image.specs.Numbers.{Numbered, None, numbered}
+use Rattle.reading_rules.specs.Reading.{reading}
+use Rattle.reading_rules.specs.Numbers.{Numbered, None, numbered}
 use Rattle.sheet.specs.declared.SheetReading.{SheetReading}
 use Rattle.sheet.specs.Sheet.{sheetFits}
 use Rattle.sheet.specs.ReadSheet.{sheetReading}
-use Rattle.lookup.specs.Theorems.{OwnLookup, lookup-numbered}
-use Rattle.lookup.specs.Setting.{settingNumber}
+use Rattle.setting.specs.Theorems.{OwnLookup, lookup-numbered}
+use Rattle.setting.specs.Setting.{settingNumber}
 use Rattle.release.specs.Release.{releasing, releasedImage}
 use Rattle.release.specs.ReleaseLaws.{release-kept}
-use Rattle.released.specs.Theorems.{OwnRelease, release-numbered}
+use Rattle.release_laws.specs.Theorems.{OwnRelease, release-numbered}
 use Rattle.audit.specs.Audit.{auditing, listedBytes}
 use Rattle.audit.specs.AuditLaws.{OwnAudit, audit-numbered, bytes-kept}
-use Rattle.listing.specs.Listing.{contents, contentsIn}
-use Rattle.listing.specs.Theorems.{OwnList, listing-numbered, contents-kept}
-use Rattle.answers.specs.Answers.{ifRoom, result, answered, readFields, moveFields, sheetFields, finding, settingFields, auditFields, listFields}
-use Rattle.answers.specs.AnswerLaws.{roomy, short, found-refused, found-accepted}
+use Rattle.contents.specs.Listing.{contents, contentsIn}
+use Rattle.contents.specs.Theorems.{OwnList, listing-numbered, contents-kept}
+use Rattle.c_answers.specs.Answers.{ifRoom, result, answered, readFields, moveFields, sheetFields, finding, settingFields, auditFields, listFields}
+use Rattle.c_answers.specs.AnswerLaws.{roomy, short, found-refused, found-accepted}
 use Rattle.pajurenda.specs.Promises.{ReadCall, ReleaseCall, SheetCall, SettingCall, AuditCall, ContentsCall}
 
 -- the answer has no room: 100, and the answer's buffer is what it was

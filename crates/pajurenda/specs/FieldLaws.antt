@@ -19,34 +19,34 @@ use Rattle.words.specs.LeLaws.{le-lt}
 use Rattle.header.specs.Header.{extendedNumber}
 use Rattle.header.specs.HeaderLaws.{extended-small}
 use Rattle.header.specs.Base.{legalBase}
-use Rattle.image.specs.declared.Identity.{Identity}
-use Rattle.image.specs.declared.Reading.{Reading}
-use Rattle.image.specs.Reading.{identityAt, reading}
-use Rattle.image.specs.Guarantee.{guaranteed}
-use Rattle.image.specs.Numbers.{Numbered, numbered, after-every, index-small, refused-is}
-use Rattle.moving.specs.declared.Moved.{Moved}
-use Rattle.moving.specs.Moving.{refusedMove}
+use Rattle.reading_rules.specs.declared.Identity.{Identity}
+use Rattle.reading_rules.specs.declared.Reading.{Reading}
+use Rattle.reading_rules.specs.Reading.{identityAt, reading}
+use Rattle.reading_rules.specs.Guarantee.{guaranteed}
+use Rattle.reading_rules.specs.Numbers.{Numbered, numbered, after-every, index-small, refused-is}
+use Rattle.move_image.specs.declared.Moved.{Moved}
+use Rattle.move_image.specs.Moving.{refusedMove}
 use Rattle.sheet.specs.declared.SheetReading.{SheetReading}
 use Rattle.sheet.specs.Sheet.{sheetFits}
 use Rattle.sheet.specs.ReadSheet.{sheetReading}
-use Rattle.lookup.specs.Setting.{settingNumber}
-use Rattle.lookup.specs.SettingLaws.{setting-passed}
-use Rattle.lookup.specs.Theorems.{OwnLookup, lookup-numbered}
+use Rattle.setting.specs.Setting.{settingNumber}
+use Rattle.setting.specs.SettingLaws.{setting-passed}
+use Rattle.setting.specs.Theorems.{OwnLookup, lookup-numbered}
 use Rattle.release.specs.Release.{nameRules, releaseRules, releasing}
-use Rattle.released.specs.Theorems.{OwnRelease, release-numbered}
-use Rattle.walk.specs.Differences.{agrees, differences, setting, entry, settings, strays, flips, bits, entries}
-use Rattle.walk.specs.DifferenceLaws.{counts, few}
-use Rattle.walk.specs.FlipLaws.{flips-most}
+use Rattle.release_laws.specs.Theorems.{OwnRelease, release-numbered}
+use Rattle.audit_count.specs.Differences.{agrees, differences, setting, entry, settings, strays, flips, bits, entries}
+use Rattle.audit_count.specs.DifferenceLaws.{counts, few}
+use Rattle.audit_count.specs.FlipLaws.{flips-most}
 use Rattle.audit.specs.declared.Audited.{Audited}
 use Rattle.audit.specs.Audit.{reference, differing, refusedAudit, tally, auditing}
 use Rattle.audit.specs.AuditLaws.{OwnAudit, audit-numbered}
-use Rattle.listing.specs.declared.Listed.{Listed}
-use Rattle.listing.specs.Listing.{refusedList, contents}
-use Rattle.listing.specs.ListingLaws.{counts-few}
-use Rattle.listing.specs.Theorems.{OwnList, listing-numbered}
-use Rattle.answers.specs.Answers.{twos, readFields, moveFields, sheetFields, finding, settingFields, auditFields, listFields}
-use Rattle.answers.specs.AnswerLaws.{found-refused, found-accepted}
-use Rattle.answers.specs.declared.Found.{Found}
+use Rattle.contents.specs.declared.Listed.{Listed}
+use Rattle.contents.specs.Listing.{refusedList, contents}
+use Rattle.contents.specs.ListingLaws.{counts-few}
+use Rattle.contents.specs.Theorems.{OwnList, listing-numbered}
+use Rattle.c_answers.specs.Answers.{twos, readFields, moveFields, sheetFields, finding, settingFields, auditFields, listFields}
+use Rattle.c_answers.specs.AnswerLaws.{found-refused, found-accepted}
+use Rattle.c_answers.specs.declared.Found.{Found}
 
 -- each is a number of 64 bits
 abbrev pub Small : List ℕ → Type 0

@@ -4,18 +4,18 @@ use Prim.Native.Nat.{ℕ, _/_}
 use mathlib.Core.List.{List}
 use mathlib.Core.Path.{_≡_}
 use lib.ListN.{length}
-use Rattle.image.specs.Reading.{reading}
+use Rattle.reading_rules.specs.Reading.{reading}
 use Rattle.sheet.specs.ReadSheet.{sheetReading}
 use Rattle.release.specs.Release.{releasing, releasedImage}
 use Rattle.audit.specs.Audit.{auditing, listedBytes}
-use Rattle.listing.specs.Listing.{contents, contentsIn}
-use Rattle.handoff.specs.Step.{stepped}
-use Rattle.handoffs.specs.Blocks.{blocks, counted}
-use Rattle.answers.specs.Steps.{stepFields, countFields}
-use Rattle.answers.specs.Answers.{ifRoom, result, answered, readFields, moveFields, sheetFields, finding, settingFields, auditFields, listFields}
+use Rattle.contents.specs.Listing.{contents, contentsIn}
+use Rattle.handoff_step.specs.Step.{stepped}
+use Rattle.handoff_list.specs.Blocks.{blocks, counted}
+use Rattle.c_answers.specs.Steps.{stepFields, countFields}
+use Rattle.c_answers.specs.Answers.{ifRoom, result, answered, readFields, moveFields, sheetFields, finding, settingFields, auditFields, listFields}
 use Rattle.words.specs.Put.{put}
-use Rattle.order.specs.Order.{atReset}
-use Rattle.stored.specs.Stored.{stationed, stationBytes}
+use Rattle.station_order.specs.Order.{atReset}
+use Rattle.station_bytes.specs.Stored.{stationed, stationBytes}
 
 -- `pajurenda_read`
 abbrev pub ReadCall : List ℕ → List ℕ → ℕ → List ℕ → Type 0

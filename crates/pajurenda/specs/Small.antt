@@ -8,30 +8,30 @@ use Rattle.facts.specs.Rules.{run}
 use Rattle.words.specs.Le.{le}
 use Rattle.words.specs.Put.{digit, put, putAll}
 use Rattle.words.specs.Number.{number, zeros}
-use Rattle.image.specs.declared.Reading.{Reading}
-use Rattle.image.specs.Reading.{reading}
-use Rattle.image.specs.Small.{small, settingBytes, small-reads}
-use Rattle.moving.specs.declared.Moved.{Moved}
+use Rattle.reading_rules.specs.declared.Reading.{Reading}
+use Rattle.reading_rules.specs.Reading.{reading}
+use Rattle.reading_rules.specs.Small.{small, settingBytes, small-reads}
+use Rattle.move_image.specs.declared.Moved.{Moved}
 use Rattle.sheet.specs.declared.SheetReading.{SheetReading}
 use Rattle.sheet.specs.Sheet.{bodyAt}
 use Rattle.sheet.specs.ReadSheet.{sheetReading}
 use Rattle.sheet.specs.Small.{sample}
-use Rattle.lookup.specs.Small.{small-found}
+use Rattle.setting.specs.Small.{small-found}
 use Rattle.release.specs.Release.{releasing}
-use Rattle.released.specs.Small.{two, small-release}
+use Rattle.release_laws.specs.Small.{two, small-release}
 use Rattle.audit.specs.declared.Audited.{Audited}
 use Rattle.audit.specs.Audit.{auditing}
 use Rattle.audit.specs.Small.{shipped, small-audit}
-use Rattle.listing.specs.declared.Listed.{Listed}
-use Rattle.listing.specs.Listing.{contents}
-use Rattle.listing.specs.Small.{small-contents}
-use Rattle.answers.specs.declared.Found.{Found}
-use Rattle.answers.specs.Answers.{ifRoom, result, answered, twos, readFields, moveFields, sheetFields, finding, settingFields, auditFields, listFields}
-use Rattle.answers.specs.AnswerLaws.{found-accepted}
+use Rattle.contents.specs.declared.Listed.{Listed}
+use Rattle.contents.specs.Listing.{contents}
+use Rattle.contents.specs.Small.{small-contents}
+use Rattle.c_answers.specs.declared.Found.{Found}
+use Rattle.c_answers.specs.Answers.{ifRoom, result, answered, twos, readFields, moveFields, sheetFields, finding, settingFields, auditFields, listFields}
+use Rattle.c_answers.specs.AnswerLaws.{found-accepted}
 use mathlib.Core.List.{[], _∷_}
-use Rattle.image.specs.After.{unlessRefused}
-use Rattle.order.specs.Order.{tempRamInit, atReset, noted, byRows, ordered}
-use Rattle.stored.specs.Stored.{stationed, stationBytes}
+use Rattle.reading_rules.specs.After.{unlessRefused}
+use Rattle.station_order.specs.Order.{tempRamInit, atReset, noted, byRows, ordered}
+use Rattle.station_bytes.specs.Stored.{stationed, stationBytes}
 
 abbrev maker : List ℕ
 maker = small 0xFFF80000 0xFFF80040 (settingBytes 0 1)

@@ -9,15 +9,15 @@ use lib.ListN.{length, getD}
 use Rattle.words.specs.Le.{le}
 use Rattle.words.specs.Put.{putAll}
 use Rattle.words.specs.PutLaws.{putAll-above, le-putAll}
-use Rattle.image.specs.Reading.{reading}
-use Rattle.image.specs.After.{changed-so}
-use Rattle.image.specs.Guarantee.{guaranteed}
-use Rattle.walk.specs.Differences.{entries}
-use Rattle.walk.specs.DifferenceLaws.{length-entries}
+use Rattle.reading_rules.specs.Reading.{reading}
+use Rattle.reading_rules.specs.After.{changed-so}
+use Rattle.reading_rules.specs.Guarantee.{guaranteed}
+use Rattle.audit_count.specs.Differences.{entries}
+use Rattle.audit_count.specs.DifferenceLaws.{length-entries}
 use Rattle.audit.specs.Audit.{reference, differing, auditing, listedBytes}
 use Rattle.audit.specs.AuditLaws.{Accepted, audit-accepted, fits}
-use Rattle.answers.specs.Answers.{answered}
-use Rattle.answers.specs.AnswerLaws.{roomy, short}
+use Rattle.c_answers.specs.Answers.{answered}
+use Rattle.c_answers.specs.AnswerLaws.{roomy, short}
 use Rattle.pajurenda.specs.Promises.{ReadCall, ReleaseCall, SheetCall, SettingCall, AuditCall, ContentsCall, HandoffCall, HandoffsCall}
 use Rattle.pajurenda.specs.FieldLaws.{Small, small-at, entries-small}
 use Rattle.pajurenda.specs.Promises.{StationCall, StationResetCall}

@@ -10,7 +10,7 @@ pub extern "C" fn pajurenda_read(image: &[u8], answer: &mut [u8]) -> u32
         return 100;
     }
     let r = reading::read(image);
-    answers::write_reading(answer, r);
+    c_answers::write_reading(answer, r);
     r.number
 }
 
@@ -30,7 +30,7 @@ pub extern "C" fn pajurenda_release(
         return 100;
     }
     let r = release::release(image, sheet, base, owners, owner);
-    answers::write_moved(answer, r);
+    c_answers::write_moved(answer, r);
     r.number
 }
 
@@ -43,7 +43,7 @@ pub extern "C" fn pajurenda_sheet(sheet: &[u8], answer: &mut [u8]) -> u32
         return 100;
     }
     let r = sheet::read_sheet(sheet);
-    answers::write_sheet_reading(answer, r);
+    c_answers::write_sheet_reading(answer, r);
     r.number
 }
 
@@ -55,8 +55,8 @@ pub extern "C" fn pajurenda_setting(image: &[u8], offset: u64, size: u64, answer
     if answer.len() < 24 {
         return 100;
     }
-    let r = answers::find(image, offset, size);
-    answers::write_found(answer, r);
+    let r = c_answers::find(image, offset, size);
+    c_answers::write_found(answer, r);
     r.number
 }
 
@@ -74,7 +74,7 @@ pub extern "C" fn pajurenda_audit(
         return 100;
     }
     let r = audit::audit_bytes(vendor, shipped, places);
-    answers::write_audited(answer, r);
+    c_answers::write_audited(answer, r);
     r.number
 }
 
@@ -86,8 +86,8 @@ pub extern "C" fn pajurenda_contents(image: &[u8], places: &mut [u8], answer: &m
     if answer.len() < 40 {
         return 100;
     }
-    let r = listing::list_contents(image, places);
-    answers::write_listed(answer, r);
+    let r = contents::list_contents(image, places);
+    c_answers::write_listed(answer, r);
     r.number
 }
 
@@ -99,11 +99,11 @@ pub extern "C" fn pajurenda_handoff(buffer: &[u8], cursor: u64, answer: &mut [u8
     if answer.len() < 80 {
         return 100;
     }
-    let c = handoff::Cursor {
+    let c = handoff_step::Cursor {
         at: cursor as usize,
     };
     let s = c.step(buffer);
-    handed::write_step(answer, s);
+    c_answers_handoff::write_step(answer, s);
     s.number
 }
 
@@ -115,8 +115,8 @@ pub extern "C" fn pajurenda_handoffs(buffer: &[u8], answer: &mut [u8]) -> u32
     if answer.len() < 24 {
         return 100;
     }
-    let r = handoffs::count(buffer);
-    handed::write_counted(answer, r);
+    let r = handoff_list::count(buffer);
+    c_answers_handoff::write_counted(answer, r);
     r.number
 }
 
@@ -131,7 +131,7 @@ pub extern "C" fn pajurenda_station(state: &mut [u8], call: u64, notification: u
     if state.len() < 8 {
         return 100;
     }
-    stored::call_in(state, call, notification)
+    station_bytes::call_in(state, call, notification)
 }
 
 // A reset.
@@ -142,6 +142,6 @@ pub extern "C" fn pajurenda_station_reset(state: &mut [u8]) -> u32
     if state.len() < 8 {
         return 100;
     }
-    stored::reset_in(state);
+    station_bytes::reset_in(state);
     0
 }

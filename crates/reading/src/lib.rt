@@ -1,5 +1,6 @@
-// Document 01, "Reading an image": rules 1 to 9 in their order, each stage a check or two and then the next; the rules after 9 are in `entries`.
-use image::Reading;
+// Document 01, "Reading an image": rules 1 to 9 in their order, each stage a check or two and then the next; the rules after 9 are in
+// `reading_entries`.
+use reading_rules::Reading;
 ghost use mathlib.Core.Path.{_≡_};
 ghost use Prim.Native.Nat.{_+_, _-_, _≤_, _<_};
 ghost use lib.ListN.{length};
@@ -8,19 +9,19 @@ ghost use Rattle.facts.specs.Rules.{run};
 ghost use Rattle.words.specs.Le.{le};
 ghost use Rattle.volume.specs.Volume.{lengthFits, fileFits};
 ghost use Rattle.header.specs.Header.{component, componentFits};
-ghost use Rattle.whole.specs.Walkable.{Walkable};
-ghost use Rattle.image.specs.Reading.{refusal, Reads};
-ghost use Rattle.image.specs.Stages.{fromPatch, fromTable, fromComponent, fromHeader, fromSection, fromFile, fromExtension, fromVolume};
+ghost use Rattle.inside_walk.specs.Walkable.{Walkable};
+ghost use Rattle.reading_rules.specs.Reading.{refusal, Reads};
+ghost use Rattle.reading_rules.specs.Stages.{fromPatch, fromTable, fromComponent, fromHeader, fromSection, fromFile, fromExtension, fromVolume};
 
 // 9, at the patch table.
 fn from_patch(image: &[u8], H: usize, p: usize, end: usize) -> Reading
     requires { ⌜ (H + 72 ≤ p) × (end ≤ length (now image)) × (p ≤ 33554432) × Holds (componentFits (component (now image) H)) × (28 ≤ H) × Walkable (now image) (le 8 (now image) 32) (H - 28) ⌝ }
     ensures { λ r. ⌜ r ≡ run refusal (fromPatch (now (image .entry)) H p end) ⌝ }
 {
-    if !tabled::patch_fits(image, p, end) {
-        return image::refused(9, 0);
+    if !table_found::patch_fits(image, p, end) {
+        return reading_rules::refused(9, 0);
     }
-    entries::from_region(image, H, p + 12, words::le32(image, p + 8))
+    reading_entries::from_region(image, H, p + 12, words::le32(image, p + 8))
 }
 
 // 9, where `FSPE` may stand before the patch table.
@@ -28,11 +29,11 @@ fn from_table(image: &[u8], H: usize, p: usize, end: usize) -> Reading
     requires { ⌜ (H + 72 ≤ p) × (end ≤ length (now image)) × (length (now image) ≤ 16777216) × (p ≤ 33554432) × Holds (componentFits (component (now image) H)) × (28 ≤ H) × Walkable (now image) (le 8 (now image) 32) (H - 28) ⌝ }
     ensures { λ r. ⌜ r ≡ run refusal (fromTable (now (image .entry)) H p end) ⌝ }
 {
-    if !tabled::is_extended(image, p, end) {
+    if !table_found::is_extended(image, p, end) {
         return from_patch(image, H, p, end);
     }
-    if !tabled::extended_fits(image, p, end) {
-        return image::refused(9, 0);
+    if !table_found::extended_fits(image, p, end) {
+        return reading_rules::refused(9, 0);
     }
     let k = words::le32(image, p + 4);
     from_patch(image, H, table::round_4(p + k), end)
@@ -44,11 +45,11 @@ fn from_component(image: &[u8], H: usize, p: usize, end: usize) -> Reading
     ensures { λ r. ⌜ r ≡ run refusal (fromComponent (now (image .entry)) H p end) ⌝ }
 {
     if !header::component_fits(header::component_at(image, H)) {
-        return image::refused(7, 0);
+        return reading_rules::refused(7, 0);
     }
     let base = words::le32(image, H + 28) as u64;
     if !header::legal(base, image.len()) {
-        return image::refused(8, 0);
+        return reading_rules::refused(8, 0);
     }
     from_table(image, H, p, end)
 }
@@ -60,10 +61,10 @@ fn from_header(image: &[u8], f: usize, size: usize) -> Reading
 {
     let H = f + 28;
     if !header::header_fits(image, H, size) {
-        return image::refused(5, 0);
+        return reading_rules::refused(5, 0);
     }
     if !header::size_fits(image, H) {
-        return image::refused(6, 0);
+        return reading_rules::refused(6, 0);
     }
     let L = words::le32(image, H + 4);
     from_component(image, H, table::round_4(H + L), f + 24 + size)
@@ -74,8 +75,8 @@ fn from_section(image: &[u8], f: usize, s: usize) -> Reading
     requires { ⌜ (s ≡ le 3 (now image) (f + 20)) × Holds (lengthFits (now image)) × (le 8 (now image) 32 ≤ length (now image)) × Holds (fileFits (now image) (le 8 (now image) 32) f) ⌝ }
     ensures { λ r. ⌜ r ≡ run refusal (fromSection (now (image .entry)) f s) ⌝ }
 {
-    if !headfile::section_fits(image, f, s) {
-        return image::refused(4, 0);
+    if !volume_file::section_fits(image, f, s) {
+        return reading_rules::refused(4, 0);
     }
     from_header(image, f, words::le24(image, f + 24))
 }
@@ -85,8 +86,8 @@ fn from_file(image: &[u8], v: usize, f: usize) -> Reading
     requires { ⌜ (v ≡ le 8 (now image) 32) × (v ≤ length (now image)) × (f ≤ 33554432) × Holds (lengthFits (now image)) ⌝ }
     ensures { λ r. ⌜ r ≡ run refusal (fromFile (now (image .entry)) v f) ⌝ }
 {
-    if !headfile::file_fits(image, v, f) {
-        return image::refused(3, 0);
+    if !volume_file::file_fits(image, v, f) {
+        return reading_rules::refused(3, 0);
     }
     from_section(image, f, words::le24(image, f + 20))
 }
@@ -97,13 +98,13 @@ fn from_extension(image: &[u8], h: usize, v: usize, x: usize) -> Reading
     ensures { λ r. ⌜ r ≡ run refusal (fromExtension (now (image .entry)) h v x) ⌝ }
 {
     if x == 0 {
-        return from_file(image, v, extension::round_8(h));
+        return from_file(image, v, volume_extension::round_8(h));
     }
-    if !extension::extension_fits(image, h, v, x) {
-        return image::refused(2, 0);
+    if !volume_extension::extension_fits(image, h, v, x) {
+        return reading_rules::refused(2, 0);
     }
     let e = words::le32(image, x + 16);
-    from_file(image, v, extension::round_8(x + e))
+    from_file(image, v, volume_extension::round_8(x + e))
 }
 
 // 2.
@@ -115,7 +116,7 @@ fn from_volume(image: &[u8]) -> Reading
     let v = words::le64(image, 32);
     let x = words::le16(image, 52);
     if !volume::volume_fits(image, h, v) {
-        return image::refused(2, 0);
+        return reading_rules::refused(2, 0);
     }
     from_extension(image, h, v, x)
 }
@@ -125,7 +126,7 @@ pub fn read(image: &[u8]) -> Reading
     ensures { λ r. ⌜ Reads (now (image .entry)) r ⌝ }
 {
     if !volume::length_fits(image) {
-        return image::refused(1, 0);
+        return reading_rules::refused(1, 0);
     }
     from_volume(image)
 }

@@ -7,11 +7,11 @@ use lib.ListN.{length}
 use Rattle.facts.specs.Fact.{every}
 use Rattle.facts.specs.Rules.{Rules, answer, rule}
 use Rattle.header.specs.Base.{legalBase}
-use Rattle.image.specs.declared.Reading.{Reading}
-use Rattle.image.specs.Reading.{reading}
-use Rattle.image.specs.After.{afterReading, unlessRefused}
-use Rattle.moving.specs.declared.Moved.{Moved}
-use Rattle.moving.specs.Moving.{moveTo, refusedMove, acceptedMove}
+use Rattle.reading_rules.specs.declared.Reading.{Reading}
+use Rattle.reading_rules.specs.Reading.{reading}
+use Rattle.reading_rules.specs.After.{afterReading, unlessRefused}
+use Rattle.move_image.specs.declared.Moved.{Moved}
+use Rattle.move_image.specs.Moving.{moveTo, refusedMove, acceptedMove}
 use Rattle.sheet.specs.Sheet.{sheetIdentity, count, sheetFits, sameIdentity, fieldFits}
 use Rattle.sheet.specs.Set.{setBy}
 use Rattle.owners.specs.Owners.{ownersFit, fieldsOwned}

@@ -8,16 +8,16 @@ use lib.ListN.{length}
 use Rattle.facts.specs.Fact.{Holds}
 use Rattle.facts.specs.Rules.{run, passed, run-passed}
 use Rattle.header.specs.Base.{legalBase}
-use Rattle.image.specs.declared.Reading.{Reading}
-use Rattle.image.specs.Reading.{reading}
-use Rattle.image.specs.Guarantee.{Guaranteed, guaranteed}
-use Rattle.image.specs.After.{after-accepted, after-refused, changed-so, kept-so}
-use Rattle.moving.specs.declared.Moved.{Moved}
-use Rattle.moving.specs.Moving.{refusedMove, acceptedMove}
+use Rattle.reading_rules.specs.declared.Reading.{Reading}
+use Rattle.reading_rules.specs.Reading.{reading}
+use Rattle.reading_rules.specs.Guarantee.{Guaranteed, guaranteed}
+use Rattle.reading_rules.specs.After.{after-accepted, after-refused, changed-so, kept-so}
+use Rattle.move_image.specs.declared.Moved.{Moved}
+use Rattle.move_image.specs.Moving.{refusedMove, acceptedMove}
 use Rattle.sheet.specs.Sheet.{Sound, sheetIdentity, sameIdentity}
 use Rattle.sheet.specs.Set.{setBy, setImage, Fits}
 use Rattle.owners.specs.Owners.{ownersFit, fieldsOwned}
-use Rattle.steps.specs.SetStep.{set-reads, read-after}
+use Rattle.release_steps.specs.SetStep.{set-reads, read-after}
 use Rattle.release.specs.Release.{nameRules, releaseRules, releasing, twoSteps, releasedImage, Releases}
 
 -- any two outcomes that the promise of a release admits are the same

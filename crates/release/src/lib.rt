@@ -1,11 +1,11 @@
 // Document 02, #105 and #106: one call to release, by one owner.
-use image::Reading;
-use moving::Moved;
+use move_image::Moved;
+use reading_rules::Reading;
 ghost use mathlib.Core.Path.{_≡_};
 ghost use Prim.Native.Nat.{_^_, _≤_};
 ghost use Rattle.facts.specs.Fact.{Holds};
 ghost use Rattle.facts.specs.Rules.{run};
-ghost use Rattle.moving.specs.Moving.{refusedMove};
+ghost use Rattle.move_image.specs.Moving.{refusedMove};
 ghost use Rattle.sheet.specs.Sheet.{sheetFits};
 ghost use Rattle.owners.specs.Owners.{listFits};
 ghost use Rattle.release.specs.Release.{nameRules, releaseRules, Releases};
@@ -24,18 +24,18 @@ fn judge_names(
 {
     let k = r.identity;
     if !sheet::names(sheet, k) {
-        return moving::refused(16, 0);
+        return move_image::refused(16, 0);
     }
     if !sheet::fields_fit(sheet, r.z) {
-        return moving::refused(17, 0);
+        return move_image::refused(17, 0);
     }
-    if !owned::fields_owned(sheet, owners, owner) {
-        return moving::refused(24, 0);
+    if !owners_check::fields_owned(sheet, owners, owner) {
+        return move_image::refused(24, 0);
     }
     if !header::legal(base, size) {
-        return moving::refused(18, 0);
+        return move_image::refused(18, 0);
     }
-    moving::accepted(r, base)
+    move_image::accepted(r, base)
 }
 
 // 15 and 23 before them, for an image of `size` bytes that reads so: sheet, list, owner and base are judged whole.
@@ -44,10 +44,10 @@ fn judge(r: Reading, size: usize, sheet: &[u8], base: u64, owners: &[u8], owner:
     ensures { λ m. ⌜ m ≡ run refusedMove (releaseRules r size (now (sheet .entry)) base (now (owners .entry)) owner) ⌝ }
 {
     if !sheet::sheet_fits(sheet) {
-        return moving::refused(15, 0);
+        return move_image::refused(15, 0);
     }
     if !owners::owners_fit(owners, owner, r.z) {
-        return moving::refused(23, 0);
+        return move_image::refused(23, 0);
     }
     judge_names(r, size, sheet, base, owners, owner)
 }
@@ -58,13 +58,13 @@ pub fn release(image: &mut [u8], sheet: &[u8], base: u64, owners: &[u8], owner: 
 {
     let r = reading::read(image);
     if r.number != 0 {
-        return moving::refused(r.number, r.index);
+        return move_image::refused(r.number, r.index);
     }
     let v = judge(r, image.len(), sheet, base, owners, owner as usize);
     if v.number != 0 {
         return v;
     }
-    bodies::set_by(image, r, sheet);
-    moving::move_to(image, r, base);
+    sheet_bodies::set_by(image, r, sheet);
+    move_image::move_to(image, r, base);
     v
 }

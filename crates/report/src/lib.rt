@@ -1,4 +1,4 @@
-// The audit's program: reads two files, vendor.bin and shipped.bin in the folder that it is run in, and writes what `output::report` makes of them.
+// The audit's program: reads two files, vendor.bin and shipped.bin in the folder that it is run in, and writes what `text_output::report` makes of them.
 use libc::STDOUT_FILENO;
 ghost use Prim.Native.Nat.{_≤_};
 ghost use lib.ListN.{length};
@@ -23,7 +23,7 @@ pub fn print(vendor: &[u8], shipped: &[u8]) {
     let mut out = [0u8; 4096];
     let n = load(vendor, &mut first);
     let m = load(shipped, &mut second);
-    let r = output::report(&first[0..n], &second[0..m], &mut out);
+    let r = text_output::report(&first[0..n], &second[0..m], &mut out);
     io::write_all(STDOUT_FILENO, &out[0..r]);
 }
 

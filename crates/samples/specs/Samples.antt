@@ -18,17 +18,17 @@ use Rattle.words.specs.Put.{digit}
 use Rattle.words.specs.Number.{number}
 use Rattle.header.specs.Base.{legalBase}
 use Rattle.table.specs.Entry.{refusedPlace, placeOf}
-use Rattle.image.specs.declared.Reading.{Reading}
-use Rattle.image.specs.Reading.{rebased, refusal, reading}
-use Rattle.image.specs.Guarantee.{guaranteed}
-use Rattle.moving.specs.Moves.{difference}
-use Rattle.moving.specs.Moving.{movedWords, refusedMove, acceptedMove}
+use Rattle.reading_rules.specs.declared.Reading.{Reading}
+use Rattle.reading_rules.specs.Reading.{rebased, refusal, reading}
+use Rattle.reading_rules.specs.Guarantee.{guaranteed}
+use Rattle.move_image.specs.Moves.{difference}
+use Rattle.move_image.specs.Moving.{movedWords, refusedMove, acceptedMove}
 use Rattle.sheet.specs.Small.{sample}
 use Rattle.sheet.specs.Sheet.{Sound, sheetIdentity, count, offset, size, bodyAt, contentsFit, bodiesFit, sheetFits, sameIdentity, fieldFits}
 use Rattle.owners.specs.Owners.{ownersFit, fieldsOwned}
 use Rattle.release.specs.Release.{nameRules, releaseRules, releasing, releasedImage}
 use Rattle.release.specs.ReleaseLaws.{Releasable, release-judged, release-accepted, release-goes}
-use Rattle.released.specs.Theorems.{released-entry, released-word}
+use Rattle.release_laws.specs.Theorems.{released-entry, released-word}
 
 pub data Row : Type 0 where
   -- an entry of an image of this size points at this place

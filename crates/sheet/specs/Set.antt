@@ -5,9 +5,9 @@ use mathlib.Core.Path.{_≡_}
 use mathlib.Core.List.{List, _++_}
 use lib.ListN.{length, getD, take, drop, set}
 use Rattle.facts.specs.Fact.{Holds}
-use Rattle.image.specs.declared.Reading.{Reading}
-use Rattle.image.specs.Reading.{reading}
-use Rattle.moving.specs.Moves.{Words}
+use Rattle.reading_rules.specs.declared.Reading.{Reading}
+use Rattle.reading_rules.specs.Reading.{reading}
+use Rattle.move_image.specs.Moves.{Words}
 use Rattle.sheet.specs.Sheet.{Sound, sheetIdentity, count, offset, size, bodyAt, sameIdentity}
 
 -- xs with the k bytes of s from `from` on copied to `at`

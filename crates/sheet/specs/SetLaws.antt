@@ -10,9 +10,9 @@ use lib.ListN.{length, getD, take, drop, set, length-set, length-append, length-
 use lib.Seq.{getD-set-same, getD-set-other, getD-append-add, getD-take, getD-drop, length-take-le}
 use Rattle.facts.specs.Fact.{Holds}
 use Rattle.words.specs.Le.{le, Bytes}
-use Rattle.image.specs.declared.Reading.{Reading}
-use Rattle.image.specs.Guarantee.{Guaranteed}
-use Rattle.moving.specs.Moves.{Words, Beside}
+use Rattle.reading_rules.specs.declared.Reading.{Reading}
+use Rattle.reading_rules.specs.Guarantee.{Guaranteed}
+use Rattle.move_image.specs.Moves.{Words, Beside}
 use Rattle.sheet.specs.PartLaws.{length-joined, joined-low, joined-mid, joined-high}
 use Rattle.sheet.specs.Sheet.{Sound, count, offset, size, bodyAt, fieldFits}
 use Rattle.sheet.specs.Set.{fieldsOf, joined, copied, written, setBy}

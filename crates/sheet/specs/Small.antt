@@ -6,8 +6,8 @@ use mathlib.Core.Path.{_≡_, ap}
 use Rattle.words.specs.Le.{le}
 use Rattle.words.specs.Put.{digit}
 use Rattle.words.specs.Number.{number, zeros}
-use Rattle.image.specs.declared.Reading.{Reading}
-use Rattle.image.specs.Small.{small, settingBytes, small-reads}
+use Rattle.reading_rules.specs.declared.Reading.{Reading}
+use Rattle.reading_rules.specs.Small.{small, settingBytes, small-reads}
 use Rattle.sheet.specs.Sheet.{bodyAt}
 use Rattle.sheet.specs.Set.{copied, written, setBy, setImage}
 

@@ -1,5 +1,5 @@
 -- What the walks of this crate share: what whoever holds a record or an answer knows of its fields, what closing a borrow of the record
--- asks, and of `order::step` its contract, that a caller has what it asks, and what it says of its answer.
+-- asks, and of `station_order::step` its contract, that a caller has what it asks, and what it says of its answer.
 -- Assumes `Given` where it takes one.
 use mathlib.Core.Path.{_≡_, refl}
 use Prim.Native.Nat.{ℕ, _<_, _^_}
@@ -23,11 +23,11 @@ use denote.Struct.Laws as LL
 use denote.Triple.Clauses.{ensured, lasts}
 use denote.Triple.Spec.{tripleOf}
 use denote.Triple.Statement.{Contract}
-use Rattle.order.specs.declared.Answer.{Answer}
-use Rattle.order.specs.Order.{ordered}
-use Rattle.order.proofs.Answer as S
-use Rattle.order.proofs.Answer.Laws as S′
-use Rattle.order.proofs.step as step
+use Rattle.station_order.specs.declared.Answer.{Answer}
+use Rattle.station_order.specs.Order.{ordered}
+use Rattle.station_order.proofs.Answer as S
+use Rattle.station_order.proofs.Answer.Laws as S′
+use Rattle.station_order.proofs.step as step
 use Rattle.station.specs.declared.Station.{Station}
 use Rattle.station.specs.Station.{standing}
 use Rattle.station.proofs.Station as T

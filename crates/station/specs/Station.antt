@@ -1,9 +1,9 @@
--- Request #108: the bench's record, lent to be changed in place, and what its calls promise by the step of `order`.
+-- Request #108: the bench's record, lent to be changed in place, and what its calls promise by the step of `station_order`.
 -- Assumes nothing.
 use Prim.Native.Nat.{ℕ}
 use mathlib.Core.Path.{_≡_, sym, _∙_}
-use Rattle.order.specs.declared.Answer.{Answer}
-use Rattle.order.specs.Order.{atReset, ordered}
+use Rattle.station_order.specs.declared.Answer.{Answer}
+use Rattle.station_order.specs.Order.{atReset, ordered}
 use Rattle.station.specs.declared.Station.{Station}
 
 -- the record in a state, whole

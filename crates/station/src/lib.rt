@@ -1,5 +1,5 @@
 // Request #108: the bench's station. The call-order state is a record lent to be changed in place; each call reads it, runs the step of
-// `order` and stores the next state. What is lent is proved by a walk of the code, by hand.
+// `station_order` and stores the next state. What is lent is proved by a walk of the code, by hand.
 ghost use Rattle.station.specs.Station.{Calls, Resets, CallsFrom, ResetsFrom};
 
 // The call-order state. Anyone may make one up: a number that is no state of ours has nothing in order.
@@ -11,7 +11,7 @@ pub struct Station {
 pub fn call(station: &mut Station, call: u64, notification: u64) -> u32
     ensures { λ r. ⌜ Calls call notification (now (station .entry)) r (now (station .exit)) ⌝ }
 {
-    let r = order::step(station.state, call, notification);
+    let r = station_order::step(station.state, call, notification);
     station.state = r.state;
     r.number
 }
@@ -20,16 +20,16 @@ pub fn call(station: &mut Station, call: u64, notification: u64) -> u32
 pub fn reset(station: &mut Station)
     ensures { λ _. ⌜ Resets (now (station .exit)) ⌝ }
 {
-    station.state = order::AT_RESET;
+    station.state = station_order::AT_RESET;
 }
 
 // A record made of a state, lent to one call: for a caller that keeps the state as a number.
-pub fn call_from(state: u32, number: u64, notification: u64) -> order::Answer
+pub fn call_from(state: u32, number: u64, notification: u64) -> station_order::Answer
     ensures { λ r. ⌜ CallsFrom state number notification r ⌝ }
 {
     let mut station = Station { state };
     let number = call(&mut station, number, notification);
-    order::Answer {
+    station_order::Answer {
         number,
         state: station.state,
     }

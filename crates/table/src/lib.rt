@@ -1,4 +1,5 @@
-// Rules 12 and 13 of document 01 and 22 of document 02: where an entry of the patch table points. The rules over the whole table are `tabled` and `scans`.
+// Rules 12 and 13 of document 01 and 22 of document 02: where an entry of the patch table points. The rules over the whole table are
+// `table_found` and `table_scans`.
 ghost use mathlib.Core.Path.{_≡_};
 ghost use Prim.Native.Nat.{_+_, _*_, _≤_};
 ghost use lib.ListN.{length};

@@ -1,4 +1,4 @@
-// Rules 1 and 2 of document 01 but for the extension: the image's length and its volume. Rules 3 and 4 are in `headfile`.
+// Rules 1 and 2 of document 01 but for the extension: the image's length and its volume. Rules 3 and 4 are in `volume_file`.
 ghost use mathlib.Core.Path.{_≡_};
 ghost use Prim.Native.Nat.{_+_, _*_, _≤_, _<_};
 ghost use lib.ListN.{length};

@@ -1,12 +1,12 @@
 use Rattle.audit.specs.AuditLaws.{audit-accepted, fits, small, walked, unlisted}
 use Rattle.audit.specs.Audit.{differing, auditing, listed}
-use Rattle.walk.specs.Differences.{differences, entries}
-use Rattle.stride.specs.Stride.{by}
-use Rattle.moving.specs.Moves.{difference}
-use Rattle.image.specs.After.{changed-so}
-use Rattle.image.specs.Guarantee.{guaranteed}
-use Rattle.image.specs.Reading.{reading}
-use Rattle.image.specs.declared.Reading.{Reading}
+use Rattle.audit_count.specs.Differences.{differences, entries}
+use Rattle.audit_step.specs.Stride.{by}
+use Rattle.move_image.specs.Moves.{difference}
+use Rattle.reading_rules.specs.After.{changed-so}
+use Rattle.reading_rules.specs.Guarantee.{guaranteed}
+use Rattle.reading_rules.specs.Reading.{reading}
+use Rattle.reading_rules.specs.declared.Reading.{Reading}
 use Rattle.facts.specs.Fact.{granted, refuted}
 use lib.Seq.{sets}
 use lib.ListN.{length}

@@ -1,6 +1,6 @@
 use Rattle.audit.specs.AuditLaws.{audit-unread, audit-unpaired, audit-illegal, audit-told}
 use Rattle.audit.specs.Audit.{shippedBase}
-use Rattle.image.specs.Guarantee.{guaranteed}
+use Rattle.reading_rules.specs.Guarantee.{guaranteed}
 use Rattle.facts.specs.Fact.{granted, refuted}
 use lib.ListN.{length}
 use Prim.Native.Nat.{_+_, _≤_}

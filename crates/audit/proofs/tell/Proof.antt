@@ -1,12 +1,12 @@
 use Rattle.audit.specs.AuditLaws.{by-reference, tally-fits, tally-full}
-use Rattle.walk.specs.DifferenceLaws.{counts, few}
-use Rattle.stride.specs.Stride.{by}
+use Rattle.audit_count.specs.DifferenceLaws.{counts, few}
+use Rattle.audit_step.specs.Stride.{by}
 use Rattle.audit.specs.Audit.{shippedBase, reference}
-use Rattle.walk.specs.Differences.{differences, countsOf}
-use Rattle.moving.specs.Moves.{difference}
-use Rattle.image.specs.Guarantee.{Guaranteed, guaranteed}
-use Rattle.image.specs.Reading.{reading}
-use Rattle.image.specs.declared.Reading.{Reading}
+use Rattle.audit_count.specs.Differences.{differences, countsOf}
+use Rattle.move_image.specs.Moves.{difference}
+use Rattle.reading_rules.specs.Guarantee.{Guaranteed, guaranteed}
+use Rattle.reading_rules.specs.Reading.{reading}
+use Rattle.reading_rules.specs.declared.Reading.{Reading}
 use lib.ListN.{length}
 use Prim.Native.Nat.{_+_, _≤_}
 use mathlib.Core.Path.{_≡_, sym, ap, _∙_}

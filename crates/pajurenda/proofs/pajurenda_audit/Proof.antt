@@ -1,5 +1,5 @@
-use Rattle.answers.specs.AnswerLaws.{roomy, short}
-use Rattle.answers.specs.Answers.{auditFields}
+use Rattle.c_answers.specs.AnswerLaws.{roomy, short}
+use Rattle.c_answers.specs.Answers.{auditFields}
 use Rattle.audit.specs.declared.Audited.{Audited}
 use Rattle.words.specs.Put.{putAll}
 use mathlib.Core.Path.{sym, ap, _∙_}

@@ -1,6 +1,6 @@
-use Rattle.answers.specs.AnswerLaws.{roomy, short}
-use Rattle.answers.specs.Steps.{stepFields}
-use Rattle.handoff.specs.declared.Stepped.{Stepped}
+use Rattle.c_answers.specs.AnswerLaws.{roomy, short}
+use Rattle.c_answers.specs.Steps.{stepFields}
+use Rattle.handoff_step.specs.declared.Stepped.{Stepped}
 use Rattle.words.specs.Put.{putAll}
 use mathlib.Core.Path.{sym, ap, _∙_}
 use borrow.Author.Needs.{needs}

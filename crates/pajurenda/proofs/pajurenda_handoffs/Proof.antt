@@ -1,6 +1,6 @@
-use Rattle.answers.specs.AnswerLaws.{roomy, short}
-use Rattle.answers.specs.Steps.{countFields}
-use Rattle.handoffs.specs.declared.Counted.{Counted}
+use Rattle.c_answers.specs.AnswerLaws.{roomy, short}
+use Rattle.c_answers.specs.Steps.{countFields}
+use Rattle.handoff_list.specs.declared.Counted.{Counted}
 use Rattle.words.specs.Put.{putAll}
 use mathlib.Core.Path.{sym, ap, _∙_}
 use borrow.Author.Needs.{needs}

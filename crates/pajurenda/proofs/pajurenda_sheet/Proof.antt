@@ -1,5 +1,5 @@
-use Rattle.answers.specs.AnswerLaws.{roomy, short}
-use Rattle.answers.specs.Answers.{sheetFields}
+use Rattle.c_answers.specs.AnswerLaws.{roomy, short}
+use Rattle.c_answers.specs.Answers.{sheetFields}
 use Rattle.sheet.specs.declared.SheetReading.{SheetReading}
 use Rattle.words.specs.Put.{putAll}
 use mathlib.Core.Path.{sym, ap, _∙_}

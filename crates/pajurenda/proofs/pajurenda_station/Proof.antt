@@ -1,5 +1,5 @@
 use mathlib.Core.Path.{sym, _∙_}
-use Rattle.answers.specs.AnswerLaws.{roomy, short}
+use Rattle.c_answers.specs.AnswerLaws.{roomy, short}
 use borrow.Author.Needs.{needs}
 use Rattle.pajurenda.proofs.pajurenda_station.Statement.{statement}
 use Rattle.pajurenda.proofs.pajurenda_station.Tie as tie

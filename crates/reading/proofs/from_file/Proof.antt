@@ -1,7 +1,7 @@
 use Rattle.facts.specs.Rules.{run}
 use native.Mathlib.Omega.{arith}
 use Rattle.facts.specs.Fact.{yes, no, granted}
-use Rattle.image.specs.Stages.{fromFile}
+use Rattle.reading_rules.specs.Stages.{fromFile}
 use borrow.Author.Needs.{needs}
 use Rattle.reading.proofs.from_file.Statement.{statement}
 use Rattle.reading.proofs.from_file.Tie as tie

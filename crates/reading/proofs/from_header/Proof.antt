@@ -2,10 +2,10 @@ use Prim.Native.Nat.{_+_, _-_}
 use mathlib.Core.Path.{_≡_}
 use Rattle.facts.specs.Rules.{run}
 use Rattle.words.specs.Le.{le}
-use Rattle.whole.specs.Walkable.{Walkable}
+use Rattle.inside_walk.specs.Walkable.{Walkable}
 use native.Mathlib.Omega.{arith}
 use Rattle.facts.specs.Fact.{yes, no, granted}
-use Rattle.image.specs.Stages.{fromHeader}
+use Rattle.reading_rules.specs.Stages.{fromHeader}
 use borrow.Author.Needs.{needs}
 use Rattle.reading.proofs.from_header.Statement.{statement}
 use Rattle.reading.proofs.from_header.Tie as tie

@@ -1,7 +1,7 @@
 use Rattle.facts.specs.Rules.{run}
 use native.Mathlib.Omega.{arith}
 use Rattle.facts.specs.Fact.{yes, no, granted}
-use Rattle.image.specs.Stages.{fromPatch}
+use Rattle.reading_rules.specs.Stages.{fromPatch}
 use borrow.Author.Needs.{needs}
 use Rattle.reading.proofs.from_patch.Statement.{statement}
 use Rattle.reading.proofs.from_patch.Tie as tie

@@ -1,9 +1,9 @@
 use Rattle.facts.specs.Rules.{run}
 use Rattle.words.specs.Le.{le}
-use Rattle.image.specs.Guarantee.{file-walkable}
+use Rattle.reading_rules.specs.Guarantee.{file-walkable}
 use native.Mathlib.Omega.{arith}
 use Rattle.facts.specs.Fact.{yes, no, granted}
-use Rattle.image.specs.Stages.{fromSection}
+use Rattle.reading_rules.specs.Stages.{fromSection}
 use borrow.Author.Needs.{needs}
 use Rattle.reading.proofs.from_section.Statement.{statement}
 use Rattle.reading.proofs.from_section.Tie as tie

@@ -1,7 +1,7 @@
 use Rattle.facts.specs.Rules.{run}
 use native.Mathlib.Omega.{arith}
 use Rattle.facts.specs.Fact.{yes, no, granted}
-use Rattle.image.specs.Stages.{fromTable}
+use Rattle.reading_rules.specs.Stages.{fromTable}
 use borrow.Author.Needs.{needs}
 use Rattle.reading.proofs.from_table.Statement.{statement}
 use Rattle.reading.proofs.from_table.Tie as tie

@@ -1,7 +1,7 @@
 use Rattle.facts.specs.Rules.{run}
 use Rattle.facts.specs.Fact.{yes, no, granted}
-use Rattle.image.specs.Reading.{reading}
-use Rattle.image.specs.Stages.{stages, by-stages}
+use Rattle.reading_rules.specs.Reading.{reading}
+use Rattle.reading_rules.specs.Stages.{stages, by-stages}
 use borrow.Author.Needs.{needs}
 use Rattle.reading.proofs.read.Statement.{statement}
 use Rattle.reading.proofs.read.Tie as tie

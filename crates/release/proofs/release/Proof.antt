@@ -1,11 +1,11 @@
 use Rattle.release.specs.Release.{releaseRules, releasing, twoSteps}
 use Rattle.release.specs.ReleaseLaws.{Releasable, set-guaranteed, release-kept, release-unread, release-judged, release-changed, release-shows}
 use Rattle.sheet.specs.Set.{setBy}
-use Rattle.moving.specs.Moving.{moveTo, refusedMove}
-use Rattle.moving.specs.declared.Moved.{Moved}
-use Rattle.image.specs.Guarantee.{guaranteed}
-use Rattle.image.specs.Reading.{reading}
-use Rattle.image.specs.declared.Reading.{Reading}
+use Rattle.move_image.specs.Moving.{moveTo, refusedMove}
+use Rattle.move_image.specs.declared.Moved.{Moved}
+use Rattle.reading_rules.specs.Guarantee.{guaranteed}
+use Rattle.reading_rules.specs.Reading.{reading}
+use Rattle.reading_rules.specs.declared.Reading.{Reading}
 use Rattle.facts.specs.Rules.{run}
 use lib.ListN.{length}
 use Prim.Native.Nat.{ℕ}

@@ -39,14 +39,14 @@ use denote.Triple.Statement.{Triple}
 use denote.Triple.Table.{entered, cited}
 use denote.Triple.Walked.{says, Stays, stay-ref, stay-none, walkOf, AllGo, goes-none, goes-ref, Walks, ends-at, walked, walk-meets}
 use denote.Exit.{yes}
-use Rattle.order.specs.declared.Answer.{Answer}
-use Rattle.order.specs.Order.{ordered}
-use Rattle.order.proofs.Answer as S
-use Rattle.order.proofs.Answer.Laws as S′
-use Rattle.order.proofs.step as step
-use Rattle.order.proofs.step.Symbol as step-def
-use Rattle.order.proofs.step.Symbol.{name as #order·step}
-use Rattle.order.proofs.step.Met as step-thm
+use Rattle.station_order.specs.declared.Answer.{Answer}
+use Rattle.station_order.specs.Order.{ordered}
+use Rattle.station_order.proofs.Answer as S
+use Rattle.station_order.proofs.Answer.Laws as S′
+use Rattle.station_order.proofs.step as step
+use Rattle.station_order.proofs.step.Symbol as step-def
+use Rattle.station_order.proofs.step.Symbol.{name as #station-order·step}
+use Rattle.station_order.proofs.step.Met as step-thm
 use Rattle.station.specs.declared.Station.{Station}
 use Rattle.station.specs.Station.{standing}
 use Rattle.station.proofs.Station as T
@@ -85,7 +85,7 @@ module _ {M : Type 1} (𝓤 : URA M) (H : Heap 𝓤) (A : Atoms 𝓤) (W : Given
       owned ! u64 (Is u64) (uint-makes 𝓤 H A W w64) c _ (refl, c-fits) $ fjoin ! $ move ! (1 ∷ 0 ∷ []) $ fjoin ! $
       owned ! u32 (Is u32) (uint-makes 𝓤 H A W w32) (r .number) _ (refl, fits) $ move ! (1 ∷ 0 ∷ []) $ done !
 
-  module _ (C : Calls 𝓤 H) (Λ : Loops 𝓤 H) (fm : FmC 𝓤 H (W .laws) C) (known : Triple 𝓤 (C #order·step) (Step 𝓤 H A at-mem run)) where
+  module _ (C : Calls 𝓤 H) (Λ : Loops 𝓤 H) (fm : FmC 𝓤 H (W .laws) C) (known : Triple 𝓤 (C #station-order·step) (Step 𝓤 H A at-mem run)) where
     walk : ent 𝓤 (onEntry 𝓤 H A f.signature (κ, tt) (q, tt) x at) (WpFn 𝓤 H C Λ code.function (vptr b o ∷ vint w64 c ∷ vint w64 n ∷ []) Post)
     walk =
         qed W ((‵ (flft κ q) ⊛ ‵ ftrue) ∷ ‵ (owns (MutRef (named 0) κ T.the-row ∷ u64 ∷ u64 ∷ []) x at) ∷ []) ∵ enter ! C Λ code.function (vptr b o ∷ vint w64 c ∷ vint w64 n ∷ []) _ $
@@ -115,7 +115,7 @@ module _ {M : Type 1} (𝓤 : URA M) (H : Heap 𝓤) (A : Atoms 𝓤) (W : Given
         keep ! (0 ∷ 1 ∷ 2 ∷ []) $ by ! (exits r (number-fits r v is) e)))))))))))))
 
 module _ {M : Type 1} (𝓤 : URA M) (H : Heap 𝓤) (A : Atoms 𝓤) (W : Given 𝓤 H A) (at-mem : Memory → SProp 𝓤) (run : Routine → Fun 𝓤) where
-  call-walks : (C : Calls 𝓤 H) (Λ : Loops 𝓤 H) → FmC 𝓤 H (W .laws) C → Triple 𝓤 (C #order·step) (Step 𝓤 H A at-mem run) → Walks 𝓤 H A f.ended stayed (WpFn 𝓤 H C Λ code.function) (f.clauses 𝓤 H A at-mem run)
+  call-walks : (C : Calls 𝓤 H) (Λ : Loops 𝓤 H) → FmC 𝓤 H (W .laws) C → Triple 𝓤 (C #station-order·step) (Step 𝓤 H A at-mem run) → Walks 𝓤 H A f.ended stayed (WpFn 𝓤 H C Λ code.function) (f.clauses 𝓤 H A at-mem run)
   call-walks C Λ fm known = walked 𝓤 H A f.ended stayed (f.clauses 𝓤 H A at-mem run) (WpFn 𝓤 H C Λ code.function)
       (λ κs. (ptr-vals, (uint-vals w64, (uint-vals w64, tt)))) (λ κs. (mut-tells (named 0) (κs .0) T.the-row, (uint-tells w64, (uint-tells w64, tt))))
       (λ κs qs bounds a _ are. via 𝓤 _ (fst∗ 𝓤 _ (emp 𝓤))
@@ -124,7 +124,7 @@ module _ {M : Type 1} (𝓤 : URA M) (H : Heap 𝓤) (A : Atoms 𝓤) (W : Given
   goes : AllGo 𝓤 H A W 1 (f.signature .params) (f.ended .kept) stayed
   goes = (goes-ref 𝓤 H A W 1 0 tt (plain (λ _. T.the-row)), (goes-none 𝓤 H A W 1 (λ _. u64) yes (λ κs x f. refl), (goes-none 𝓤 H A W 1 (λ _. u64) yes (λ κs x f. refl), tt)))
 
-call-meets : {M : Type 1} (𝓤 : URA M) (H : Heap 𝓤) (A : Atoms 𝓤) → Given 𝓤 H A → (at-mem : Memory → SProp 𝓤) (run : Routine → Fun 𝓤) (𝓣 : Tables 𝓤 H) → Triple 𝓤 (𝓣 .C #order·step) (Step 𝓤 H A at-mem run)
+call-meets : {M : Type 1} (𝓤 : URA M) (H : Heap 𝓤) (A : Atoms 𝓤) → Given 𝓤 H A → (at-mem : Memory → SProp 𝓤) (run : Routine → Fun 𝓤) (𝓣 : Tables 𝓤 H) → Triple 𝓤 (𝓣 .C #station-order·step) (Step 𝓤 H A at-mem run)
     → Meets 𝓤 H A f.signature (WpFn 𝓤 H (𝓣 .C) (𝓣 .Λ) code.function) (f.spec 𝓤 H A at-mem run)
 call-meets 𝓤 H A W at-mem run 𝓣 known =
     walk-meets 𝓤 H A f.ended stayed W (goes 𝓤 H A W at-mem run) (f.clauses 𝓤 H A at-mem run) (WpFn 𝓤 H (𝓣 .C) (𝓣 .Λ) code.function) (WpFn-mono 𝓤 H (W .laws) 𝓣 code.function)
@@ -136,4 +136,4 @@ call-spec 𝓤 H 𝓜 𝓖 𝓡 =
     entered 𝓤 H (tripleOf 𝓤 H (𝓖 .A) f.signature (f.spec 𝓤 H (𝓖 .A) (𝓜 .mem) (𝓡 .run)))
     (tables 𝓤 H 𝓜 𝓡 code.env .C) (tables 𝓤 H 𝓜 𝓡 code.env .Λ) #station·call code.function (code.unfolded 𝓤 H 𝓜 𝓡)
     (call-meets 𝓤 H (𝓖 .A) (givenOf 𝓤 H 𝓜 𝓖) (𝓜 .mem) (𝓡 .run) (tablesOf 𝓤 H 𝓜 (tables 𝓤 H 𝓜 𝓡 code.env))
-    (cited 𝓤 H (Step 𝓤 H (𝓖 .A) (𝓜 .mem) (𝓡 .run)) 𝓜 𝓡 code.env #order·step step-def.routine code.calls-order·step (step-thm.met 𝓤 H 𝓜 𝓖 𝓡)))
+    (cited 𝓤 H (Step 𝓤 H (𝓖 .A) (𝓜 .mem) (𝓡 .run)) 𝓜 𝓡 code.env #station-order·step step-def.routine code.calls-station-order·step (step-thm.met 𝓤 H 𝓜 𝓖 𝓡)))

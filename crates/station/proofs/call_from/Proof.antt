@@ -39,9 +39,9 @@ use denote.Triple.Statement.{Contract, Triple}
 use denote.Triple.Table.{entered, cited}
 use denote.Triple.Walked.{says, Stays, stay-none, walkOf, AllGo, goes-none, Walks, ends-at, walked, walk-meets}
 use denote.Exit.{yes}
-use Rattle.order.specs.declared.Answer.{Answer}
-use Rattle.order.proofs.Answer as S
-use Rattle.order.proofs.Answer.Laws as S′
+use Rattle.station_order.specs.declared.Answer.{Answer}
+use Rattle.station_order.proofs.Answer as S
+use Rattle.station_order.proofs.Answer.Laws as S′
 use Rattle.station.specs.declared.Station.{Station}
 use Rattle.station.specs.Station.{standing, Calls as Promises}
 use Rattle.station.proofs.Station as T

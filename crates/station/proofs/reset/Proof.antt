@@ -34,7 +34,7 @@ use denote.Triple.Entry.{onEntry}
 use denote.Triple.Spec.{Meets, tripleOf}
 use denote.Triple.Table.{entered}
 use denote.Triple.Walked.{says, Stays, stay-ref, walkOf, AllGo, goes-ref, Walks, ends-at, walked, walk-meets}
-use Rattle.order.specs.Order.{atReset}
+use Rattle.station_order.specs.Order.{atReset}
 use Rattle.station.specs.declared.Station.{Station}
 use Rattle.station.specs.Station.{standing}
 use Rattle.station.proofs.Station as T

@@ -1,5 +1,0 @@
-pub mod Listing
-pub mod ListingLaws
-pub mod Filling
-pub mod Theorems
-pub mod Small

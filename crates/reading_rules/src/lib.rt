@@ -1,0 +1,78 @@
+// The answer of a reading: what document 01 gives for an image, and the refusals. The rules in their order are in `reading` and
+// `reading_entries`.
+ghost use mathlib.Core.Path.{_≡_};
+ghost use Prim.Native.Nat.{_+_, _*_, _≤_};
+ghost use lib.ListN.{length};
+ghost use Rattle.reading_rules.specs.Reading.{refusal, identityAt, accepted};
+
+// What tells one release of an image from another: the image identity, the revision, and the extended number.
+pub struct Identity {
+    pub image: u64,
+    pub revision: u32,
+    pub extended: u32,
+}
+
+// The answer of a reading: number 0 and the fields, or the refusal's number and index and zero in every other field.
+pub struct Reading {
+    pub number: u32,
+    pub index: usize,
+    pub H: usize,
+    pub component: usize,
+    pub identity: Identity,
+    pub base: u64,
+    pub c: usize,
+    pub z: usize,
+    pub n: usize,
+    pub E: usize,
+}
+
+pub fn refused(number: u32, index: usize) -> Reading
+    ensures { λ r. ⌜ r ≡ refusal number index ⌝ }
+{
+    Reading {
+        number,
+        index,
+        H: 0,
+        component: 0,
+        identity: Identity {
+            image: 0,
+            revision: 0,
+            extended: 0,
+        },
+        base: 0,
+        c: 0,
+        z: 0,
+        n: 0,
+        E: 0,
+    }
+}
+
+fn identity_at(image: &[u8], H: usize) -> Identity
+    requires { ⌜ H + 80 ≤ length (now image) ⌝ }
+    ensures { λ r. ⌜ r ≡ identityAt (now (image .entry)) H ⌝ }
+{
+    Identity {
+        image: words::le64(image, H + 16) as u64,
+        revision: words::le32(image, H + 12) as u32,
+        extended: header::extended_number(image, H),
+    }
+}
+
+pub fn accept(image: &[u8], H: usize, t: usize, n: usize, c: usize, z: usize) -> Reading
+    requires { ⌜ (H + 80 ≤ length (now image)) × (t + 4 * n ≤ length (now image)) ⌝ }
+    ensures { λ r. ⌜ r ≡ accepted (now (image .entry)) H t n c z ⌝ }
+{
+    let identity = identity_at(image, H);
+    Reading {
+        number: 0,
+        index: 0,
+        H,
+        component: header::component_at(image, H),
+        identity,
+        base: words::le32(image, H + 28) as u64,
+        c,
+        z,
+        n,
+        E: t + 4 * n,
+    }
+}

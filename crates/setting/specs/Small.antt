@@ -1,0 +1,28 @@
+-- A setting of the small image: two bytes at 40 in its region are found, and stand at 228.
+-- Assumes nothing.
+use Prim.Native.Nat.{ℕ, _≤_}
+use native.Mathlib.Omega.{arith}
+use mathlib.Core.List.{List}
+use mathlib.Core.Path.{_≡_, ap}
+use Rattle.facts.specs.Fact.{Holds}
+use Rattle.reading_rules.specs.declared.Reading.{Reading}
+use Rattle.reading_rules.specs.Reading.{reading}
+use Rattle.reading_rules.specs.Small.{small, settingBytes, small-reads}
+use Rattle.setting.specs.Setting.{settingFits, settingNumber, settingPlace}
+use Rattle.setting.specs.SettingLaws.{setting-accepted}
+
+abbrev maker : List ℕ
+maker = small 0xFFF80000 0xFFF80040 (settingBytes 0 1)
+
+read : reading maker .number ≡ 0
+read = ap (λ (r : Reading). r .number) small-reads
+
+inside : Holds (settingFits 40 2 (reading maker .z))
+inside = rw small-reads (omega arith, (omega arith, omega arith))
+
+pub small-found : settingNumber maker 40 2 ≡ 0
+small-found = setting-accepted maker 40 2 read inside .0
+
+pub small-place : settingPlace maker 40 2 ≡ 256
+unfolding settingPlace
+small-place = rw (small-found, small-reads)

@@ -1,0 +1,18 @@
+-- Assumes nothing.
+use native.Mathlib.Omega.{arith}
+use Rattle.text_lines.specs.TextLaws.{decimal-32}
+use borrow.Author.Needs.{needs}
+use Rattle.text_lines.proofs.put_short_line.Statement.{statement}
+use Rattle.text_lines.proofs.put_short_line.Tie as tie
+
+put-number-requires : tie.Need-put-number-requires
+put-number-requires c κs = omega (arith, decimal-32 (c .before .before .before .args .n) (omega (arith, c .before .before .before .fits .n)))
+
+same-length : tie.Need-same-length
+same-length c = search needs
+
+returns : tie.Need-returns
+returns c = (c .before .before .put-number .ensures .0, omega (arith, decimal-32 (c .before .before .before .before .before .before .args .n) (omega (arith, c .before .before .before .before .before .before .fits .n))))
+
+pub put-short-line-spec : {M : Type 1} → statement M
+put-short-line-spec = tie.close (tie.spec put-number-requires same-length returns)
