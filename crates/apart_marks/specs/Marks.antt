@@ -8,7 +8,7 @@ use lib.ListN.{length, getD}
 use Rattle.facts.specs.Fact.{Fact, _≤?_, _≡?_, deny, _and_, _or_, Holds}
 use Rattle.table.specs.Passes.{place}
 use Rattle.items.specs.declared.Item.{Item}
-use Rattle.items.specs.Items.{each, apart}
+use Rattle.items.specs.Items.{each, apart, wordKind}
 
 -- the byte at k is one of x
 abbrev pub has : ℕ → Item → Fact
@@ -16,7 +16,7 @@ has k x = x .at ≤? k and suc k ≤? x .at + x .len
 
 -- the byte at k isn't one of both, or neither is a word
 abbrev pub apartAt : ℕ → Item → Item → Fact
-apartAt k x y = (deny (x .kind ≡? 2) and deny (y .kind ≡? 2)) or deny (has k x) or deny (has k y)
+apartAt k x y = (deny (x .kind ≡? wordKind) and deny (y .kind ≡? wordKind)) or deny (has k x) or deny (has k y)
 
 -- the byte at k is none of y
 abbrev pub free : ℕ → Item → Fact
@@ -24,7 +24,7 @@ free k y = deny (has k y)
 
 -- y is no word that has it
 abbrev pub calm : ℕ → Item → Fact
-calm k y = deny (y .kind ≡? 2) or deny (has k y)
+calm k y = deny (y .kind ≡? wordKind) or deny (has k y)
 
 -- m is the mark that the items of l leave at k
 pub record Mark (l : List Item) (k m : ℕ) : Type 0 where

@@ -13,7 +13,7 @@ use lib.Seq.{getD-set-same, getD-set-other}
 use Rattle.facts.specs.Fact.{Fact, Holds}
 use Rattle.table.specs.Passes.{place}
 use Rattle.items.specs.declared.Item.{Item}
-use Rattle.items.specs.Items.{word, each, apart}
+use Rattle.items.specs.Items.{word, each, apart, wordKind}
 use Rattle.items.specs.ItemsLaws.{each-none, each-so, each-more, each-last}
 use Rattle.inside_judge.specs.Rules.{patchFrom}
 use Rattle.apart_strokes.specs.Strokes.{Struck, Painting, Painted}
@@ -59,7 +59,7 @@ module _ (l : List Item) (x : Item) (k m : ℕ) (is : Mark l k m) where
       }
 
   -- x is a word that has it
-  pub mark-word : x .kind ≡ 2 → Holds (has k x) → Mark (l ++ (x ∷ [])) k 2
+  pub mark-word : x .kind ≡ wordKind → Holds (has k x) → Mark (l ++ (x ∷ [])) k 2
   mark-word w h =
       record {
         small = omega arith;
@@ -70,7 +70,7 @@ module _ (l : List Item) (x : Item) (k m : ℕ) (is : Mark l k m) where
       }
 
   -- x has it and is no word, nor has a word been there
-  pub mark-kept : (x .kind ≡ 2 → ⊥) → m ≤ 1 → Holds (has k x) → Mark (l ++ (x ∷ [])) k 1
+  pub mark-kept : (x .kind ≡ wordKind → ⊥) → m ≤ 1 → Holds (has k x) → Mark (l ++ (x ∷ [])) k 1
   mark-kept w low h =
       record {
         small = omega arith;
@@ -88,14 +88,14 @@ module _ (l : List Item) (x : Item) (k m : ℕ) (is : Mark l k m) where
   pub fits-word : m ≡ 0 → Holds (each (apartAt k x) l)
   fits-word z = each-so (free k) (apartAt k x) l (λ y h. inr (inr h)) (is .empty z)
 
-  pub fits-kept : (x .kind ≡ 2 → ⊥) → m ≤ 1 → Holds (each (apartAt k x) l)
+  pub fits-kept : (x .kind ≡ wordKind → ⊥) → m ≤ 1 → Holds (each (apartAt k x) l)
   fits-kept w low = each-so (calm k) (apartAt k x) l go (is .wordless low)
     where
       go : (y : Item) → Holds (calm k y) → Holds (apartAt k x y)
       go y (inl n) = inl (w, n)
       go y (inr n) = inr (inr n)
 
-  pub clash-word : x .kind ≡ 2 → Holds (has k x) → 0 < m → Holds (each (apart x) l) → ⊥
+  pub clash-word : x .kind ≡ wordKind → Holds (has k x) → 0 < m → Holds (each (apart x) l) → ⊥
   clash-word w h some all = let z = is .taken (each-so (apart x) (free k) l (λ y a. go y (pair-at k x y a)) all) in omega arith
     where
       go : (y : Item) → Holds (apartAt k x y) → Holds (free k y)
@@ -185,7 +185,7 @@ by-has k x f g =
 
 -- a word marked over whatever was there
 pub worded-in : (ms ns : List ℕ) (w limit : ℕ) (x : Item) (l : List Item) → PaintedIn ms ns w (x .at) (x .at + x .len) limit 2 true
-    → x .kind ≡ 2 → Marks l w ms → Marks (l ++ (x ∷ [])) w ns
+    → x .kind ≡ wordKind → Marks l w ms → Marks (l ++ (x ∷ [])) w ns
 worded-in ms ns w limit x l p word marks =
     record {
       long = p .long ∙ marks .long;
@@ -196,7 +196,7 @@ worded-in ms ns w limit x l p word marks =
     }
 
 kept-in : (ms ns : List ℕ) (w : ℕ) (x : Item) (l : List Item) → PaintedIn ms ns w (x .at) (x .at + x .len) 1 1 true
-    → (x .kind ≡ 2 → ⊥) → Marks l w ms → Marks (l ++ (x ∷ [])) w ns
+    → (x .kind ≡ wordKind → ⊥) → Marks l w ms → Marks (l ++ (x ∷ [])) w ns
 kept-in ms ns w x l p other marks =
     record {
       long = p .long ∙ marks .long;
@@ -208,7 +208,7 @@ kept-in ms ns w x l p other marks =
           (λ t. rw (p .rest refl j h t) (mark-same l x (w + j) (getD ms j 0) (marks .at j h) t));
     }
 
-pub added-word : (ms ns : List ℕ) (w : ℕ) (x : Item) (r : Bool) → x .kind ≡ 2 → PaintedIn ms ns w (x .at) (x .at + x .len) 0 2 r
+pub added-word : (ms ns : List ℕ) (w : ℕ) (x : Item) (r : Bool) → x .kind ≡ wordKind → PaintedIn ms ns w (x .at) (x .at + x .len) 0 2 r
     → Added ms ns w x r
 added-word ms ns w x r word p =
     record {
@@ -224,7 +224,7 @@ added-word ms ns w x r word p =
           (s .over) all;
     }
 
-pub added-kept : (ms ns : List ℕ) (w : ℕ) (x : Item) (r : Bool) → (x .kind ≡ 2 → ⊥) → PaintedIn ms ns w (x .at) (x .at + x .len) 1 1 r
+pub added-kept : (ms ns : List ℕ) (w : ℕ) (x : Item) (r : Bool) → (x .kind ≡ wordKind → ⊥) → PaintedIn ms ns w (x .at) (x .at + x .len) 1 1 r
     → Added ms ns w x r
 added-kept ms ns w x r other p =
     record {

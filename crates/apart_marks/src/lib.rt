@@ -55,7 +55,7 @@ pub fn mark_item(marks: &mut [u8], w: usize, x: Item) -> bool
     requires { ⌜ (length (now marks) ≡ 65536) × (x .at + x .len < 1099511627776) ⌝ }
     ensures { λ r. ⌜ Added (now (marks .entry)) (now (marks .exit)) w x r ⌝ }
 {
-    if x.kind == 2 {
+    if x.kind == items::WORD {
         return mark_word(marks, w, x.at, x.len);
     }
     paint_in(marks, w, x.at, x.at + x.len, 1, 1)

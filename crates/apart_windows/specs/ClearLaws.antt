@@ -8,27 +8,27 @@ use native.Mathlib.Omega.{arith}
 use native.Mathlib.Decide.{ℕ-discrete, decLt}
 use Rattle.facts.specs.Fact.{Fact, Holds}
 use Rattle.items.specs.declared.Item.{Item}
-use Rattle.items.specs.Items.{each, apart, apartFrom}
+use Rattle.items.specs.Items.{each, apart, apartFrom, wordKind}
 use Rattle.items.specs.ItemsLaws.{each-more}
-use Rattle.items.specs.Judged.{solid}
+use Rattle.items.specs.Shapes.{solid}
 use Rattle.apart_marks.specs.Marks.{has, apartAt}
 use Rattle.apart_windows.specs.Clear.{apartFromAt, between, ready}
 
 module _ (E top : ℕ) where
   -- a byte of a word lies between
-  word-byte : (k : ℕ) (x : Item) → Holds (ready E top x) → x .kind ≡ 2 → Holds (has k x) → (E ≤ k) × (k < top)
+  word-byte : (k : ℕ) (x : Item) → Holds (ready E top x) → x .kind ≡ wordKind → Holds (has k x) → (E ≤ k) × (k < top)
   word-byte k x (s, inl n) w h = absurd (n w)
   word-byte k x (s, inr b) w h = (omega (arith, b .0, h .0), omega (arith, b .1, h .1))
 
   -- two that share a byte at which they are apart are no words
   shared : (k : ℕ) (x y : Item) → Holds (ready E top x) → Holds (ready E top y) → ((k : ℕ) → E ≤ k → k < top → Holds (apartAt k x y))
-      → Holds (has k x) → Holds (has k y) → (x .kind ≡ 2) ⊎ (y .kind ≡ 2) → ⊥
+      → Holds (has k x) → Holds (has k y) → (x .kind ≡ wordKind) ⊎ (y .kind ≡ wordKind) → ⊥
   shared k x y rx ry at hx hy word = go (at k (in-it .0) (in-it .1)) word
     where
       in-it : (E ≤ k) × (k < top)
       in-it = elim word [ inl w ↦ word-byte k x rx w hx | inr w ↦ word-byte k y ry w hy ]
 
-      go : Holds (apartAt k x y) → (x .kind ≡ 2) ⊎ (y .kind ≡ 2) → ⊥
+      go : Holds (apartAt k x y) → (x .kind ≡ wordKind) ⊎ (y .kind ≡ wordKind) → ⊥
       go (inl n) (inl w) = n .0 w
       go (inl n) (inr w) = n .1 w
       go (inr (inl n)) w = n hx
@@ -36,7 +36,7 @@ module _ (E top : ℕ) where
 
   -- where they overlap, the later start is a byte of both
   overlap : (x y : Item) → Holds (ready E top x) → Holds (ready E top y) → ((k : ℕ) → E ≤ k → k < top → Holds (apartAt k x y))
-      → y .at < x .at + x .len → x .at < y .at + y .len → (x .kind ≡ 2) ⊎ (y .kind ≡ 2) → ⊥
+      → y .at < x .at + x .len → x .at < y .at + y .len → (x .kind ≡ wordKind) ⊎ (y .kind ≡ wordKind) → ⊥
   overlap x y rx ry at a b word = elim (decLt (x .at) (y .at)) [ yes l ↦ upper l (ry .0) | no l ↦ lower l (rx .0) ]
     where
       upper : x .at < y .at → Holds (solid y) → ⊥
@@ -54,9 +54,9 @@ module _ (E top : ℕ) where
         | no l ↦ inr (inl (omega arith))
         | yes l ↦ elim (decLt (x .at) (y .at + y .len)) [
           | no k ↦ inr (inr (omega arith))
-          | yes k ↦ elim (ℕ-discrete (x .kind) 2) [
+          | yes k ↦ elim (ℕ-discrete (x .kind) wordKind) [
             | yes w ↦ absurd (overlap x y rx ry at l k (inl w))
-            | no w ↦ elim (ℕ-discrete (y .kind) 2) [
+            | no w ↦ elim (ℕ-discrete (y .kind) wordKind) [
               | yes u ↦ absurd (overlap x y rx ry at l k (inr u))
               | no u ↦ inl (w, u)
             ]

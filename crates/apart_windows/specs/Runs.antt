@@ -8,7 +8,7 @@ use lib.ListN.{length}
 use Rattle.facts.specs.Fact.{Fact, _≤?_, Holds}
 use Rattle.items.specs.declared.Item.{Item}
 use Rattle.items.specs.Items.{each, apartFrom}
-use Rattle.inside_modules.specs.Modules.{Fits}
+use Rattle.inside_modules.specs.ModulesFit.{Fits}
 use Rattle.inside_walk.specs.declared.Spot.{Spot}
 use Rattle.inside_walk.specs.Entries.{countOf}
 use Rattle.apart_marks.specs.Marks.{Marks}

@@ -9,7 +9,7 @@ use native.Mathlib.Numerals.{add-one}
 use lib.Dec.{eqb}
 use lib.ListN.{length}
 use Rattle.facts.specs.Fact.{Holds}
-use Rattle.facts.specs.Rules.{by-cond}
+use Rattle.facts.specs.RulesLaws.{by-cond}
 use Rattle.words.specs.Le.{le}
 use Rattle.items.specs.declared.Item.{Item}
 use Rattle.items.specs.Items.{each, apartFrom}
@@ -17,7 +17,7 @@ use Rattle.items.specs.ItemsLaws.{each-none, each-so, each-more, apart-fork}
 use Rattle.inside_rows.specs.declared.Module.{Module}
 use Rattle.inside_blocks.specs.Blocks.{itemOf, entriesFrom}
 use Rattle.inside_walk.specs.declared.Spot.{Spot}
-use Rattle.inside_walk.specs.Whole.{Valid}
+use Rattle.inside_walk.specs.WholeWalk.{Valid}
 use Rattle.inside_walk.specs.Entries.{countOf, entries-within}
 use Rattle.apart_marks.specs.Marks.{Marks, Added}
 use Rattle.apart_strokes.specs.StrokesLaws.{false-true}

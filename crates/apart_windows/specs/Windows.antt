@@ -9,7 +9,7 @@ use Rattle.facts.specs.Fact.{Fact, _≤?_, _≡?_, _and_, _or_, Holds}
 use Rattle.table.specs.Passes.{place}
 use Rattle.items.specs.declared.Item.{Item}
 use Rattle.items.specs.Items.{each, apartFrom}
-use Rattle.items.specs.Judged.{solid}
+use Rattle.items.specs.Shapes.{solid}
 use Rattle.inside_rows.specs.declared.Module.{Module}
 use Rattle.inside_blocks.specs.declared.Cursor.{Cursor}
 use Rattle.inside_walk.specs.declared.Spot.{Spot}

@@ -11,14 +11,15 @@ use lib.ListN.{getD}
 use Rattle.facts.specs.Fact.{Holds, Tells}
 use Rattle.table.specs.Passes.{place}
 use Rattle.items.specs.declared.Item.{Item}
-use Rattle.items.specs.Items.{each, apartFrom}
+use Rattle.items.specs.Items.{each, apartFrom, endKind}
 use Rattle.items.specs.ItemsLaws.{each-none, each-both, each-so, each-join}
-use Rattle.items.specs.Judged.{solid, from}
+use Rattle.items.specs.Shapes.{solid, from}
 use Rattle.inside_walk.specs.declared.Spot.{Spot}
 use Rattle.inside_walk.specs.declared.Move.{Move}
 use Rattle.inside_blocks.specs.Blocks.{headsFrom, entriesFrom, blocksFrom}
-use Rattle.inside_blocks.specs.Blocks as blocks
-use Rattle.inside_walk.specs.Whole.{walked, ahead, far, Valid, Stepped}
+use Rattle.inside_blocks.specs.BlocksWalk as blocksWalk
+use Rattle.inside_walk.specs.Whole.{walked}
+use Rattle.inside_walk.specs.WholeWalk.{ahead, far, Valid, Stepped}
 use Rattle.inside_walk.specs.WholeAbove.{ahead-above}
 use Rattle.inside_walk.specs.Walkable.{Passing, passing-end, passing-next}
 use Rattle.inside_walk.specs.Entries.{entriesOf, pastOf, ahead-entries, past-far, passing-entries}
@@ -39,12 +40,12 @@ use Rattle.apart_windows.specs.Windows.{Ready, Scanning, Scanned, Behind
 
 module _ (xs : List ℕ) (v f : ℕ) (before : List Item) (w : ℕ) (ms : List ℕ) (s : Spot) (u : Move)
     (g : Scanning xs v f before w ms s) (step : Stepped xs v s u) where
-  pub scan-end : u .item .kind ≡ 0 → Scanned xs v f before w true
+  pub scan-end : u .item .kind ≡ endKind → Scanned xs v f before w true
   scan-end z =
       let e = passing-end xs v f (g .passed) s u (g .at) step z in
       record { clear = λ t j h. rw e (g .apart j h); clash = λ t. false-true (sym t) }
 
-  module _ (is : u .item .kind ≡ 0 → ⊥) (ns : List ℕ) (high : ℕ) (r : Reach)
+  module _ (is : u .item .kind ≡ endKind → ⊥) (ns : List ℕ) (high : ℕ) (r : Reach)
       (run : Reached ms ns w high (u .item ∷ entriesOf xs (u .next)) r) where
     pub scan-found : r .ok ≡ false → Scanned xs v f before w false
     scan-found e =
@@ -110,8 +111,8 @@ going-start xs v f before w ms s b marks =
     off : (j : ℕ) → Holds (each (free (w + j)) (b .passed))
     off j = each-so (endBy w) (free (w + j)) (b .passed) (λ x e h. omega (arith, h .1)) (b .low)
 
-done-none : (xs : List ℕ) (s : Spot) → s .c .heads ≡ 0 → s .c .left ≡ 0 → s .m .size ≤ s .c .used → blocks.ahead xs (s .m) (s .c) ≡ []
-unfolding blocks.ahead headsFrom entriesFrom blocksFrom
+done-none : (xs : List ℕ) (s : Spot) → s .c .heads ≡ 0 → s .c .left ≡ 0 → s .m .size ≤ s .c .used → blocksWalk.ahead xs (s .m) (s .c) ≡ []
+unfolding blocksWalk.ahead headsFrom entriesFrom blocksFrom
 done-none xs s h l u = let e : s .m .size - s .c .used ≡ 0 = omega arith in rw (h, l, e)
 
 pub past-above : (xs : List ℕ) (v k : ℕ) (s : Spot) → Valid xs v s → Holds (past k s) → Holds (each (from k) (ahead xs v s))
@@ -137,7 +138,7 @@ scan-past xs v f before w ms s g p =
     off j h x (inr z) = λ b. omega (arith, b .0)
 
 pub going-next : (xs : List ℕ) (v f : ℕ) (before : List Item) (w : ℕ) (ms : List ℕ) (s : Spot) (r : Trail) (u : Move)
-    (g : Going xs v f before w ms s r) → Stepped xs v s u → (u .item .kind ≡ 0 → ⊥) → (ns : List ℕ) (h : Reach)
+    (g : Going xs v f before w ms s r) → Stepped xs v s u → (u .item .kind ≡ endKind → ⊥) → (ns : List ℕ) (h : Reach)
     → Reached ms ns w (r .high) (u .item ∷ entriesOf xs (u .next)) h → h .ok ≡ true → (t : Spot) → t ≡ pastOf (u .next)
     → (q : Trail) → Followed (w + 65536) r (h .high) t q → Going xs v f before w ns t q
 unfolding scan-next
@@ -164,7 +165,7 @@ going-next xs v f before w ms s r u g step is ns h run e t past q fol =
         (each-join (endBy (h .high)) l (u .item ∷ entriesOf xs (u .next)) (weaker (r .high) (h .high) l (run .up) (g .ends)) (run .ends e))
 
 -- the scan comes nearer to its end
-pub going-less : (xs : List ℕ) (v : ℕ) (s : Spot) (u : Move) (t : Spot) → Stepped xs v s u → (u .item .kind ≡ 0 → ⊥)
+pub going-less : (xs : List ℕ) (v : ℕ) (s : Spot) (u : Move) (t : Spot) → Stepped xs v s u → (u .item .kind ≡ endKind → ⊥)
     → t ≡ pastOf (u .next) → far v t < far v s
 going-less xs v s u t step is past = rw past (omega (arith, past-far v (u .next), step .less is))
 

@@ -11,7 +11,7 @@ ghost use Prim.Native.Nat.{_+_, _*_, _≤_, _<_};
 ghost use lib.ListN.{length};
 ghost use Rattle.facts.specs.Fact.{Tells, _≤?_, _or_};
 ghost use Rattle.items.specs.Items.{apartFrom};
-ghost use Rattle.inside_modules.specs.Modules.{Fits};
+ghost use Rattle.inside_modules.specs.ModulesFit.{Fits};
 ghost use Rattle.inside_blocks.specs.Blocks.{entriesFrom};
 ghost use Rattle.inside_walk.specs.Whole.{walked};
 ghost use Rattle.inside_walk.specs.Entries.{pastOf, entriesOf};
@@ -190,7 +190,7 @@ fn scan_window(
         }
         let u = inside_walk::step(image, v, s);
         let x = u.item;
-        if x.kind == 0 {
+        if x.kind == items::END {
             return Scan { ok: true, next };
         }
         let on = u.next;

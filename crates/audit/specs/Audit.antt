@@ -12,9 +12,9 @@ use Rattle.words.specs.Le.{le}
 use Rattle.words.specs.Put.{putAll}
 use Rattle.header.specs.Base.{legalBase}
 use Rattle.reading_rules.specs.Reading.{reading}
-use Rattle.reading_rules.specs.After.{afterReading, unlessRefused}
+use Rattle.answers.specs.After.{afterReading, unlessRefused}
 use Rattle.move_image.specs.Moving.{moveTo}
-use Rattle.audit.specs.declared.Audited.{Audited}
+use Rattle.answers.specs.declared.Audited.{Audited}
 use Rattle.audit_count.specs.declared.Counts.{Counts}
 use Rattle.audit_count.specs.Differences.{differences, settings, strays, bits, entries}
 

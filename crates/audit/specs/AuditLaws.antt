@@ -10,20 +10,24 @@ use lib.Dec.{eqb}
 use lib.ListN.{length}
 use lib.Seq.{sets}
 use borrow.Author.Tests.{le-leb, lt-leb}
-use Rattle.facts.specs.Fact.{Fact, Holds, _≤?_, _≡?_, deny, _and_, test, passes, fails}
-use Rattle.facts.specs.Rules.{Rules, rule, answer, run, passed, by-test}
+use Rattle.facts.specs.Fact.{Fact, Holds, _≤?_, _≡?_, deny, _and_, test}
+use Rattle.facts.specs.FactLaws.{passes, fails}
+use Rattle.facts.specs.Rules.{Rules, rule, answer, run}
+use Rattle.facts.specs.RulesLaws.{passed, by-test}
 use Rattle.words.specs.Put.{putAll}
 use Rattle.header.specs.Base.{legalBase}
 use Rattle.reading_rules.specs.Reading.{reading}
-use Rattle.reading_rules.specs.After.{unlessRefused, after-accepted, after-refused, changed-so, kept-so}
+use Rattle.answers.specs.After.{unlessRefused}
+use Rattle.answers.specs.AfterLaws.{after-accepted, after-refused, changed-so, kept-so}
 use Rattle.reading_rules.specs.Guarantee.{guaranteed}
-use Rattle.reading_rules.specs.Numbers.{Numbered, after-every, numbered-own, own-number, own-zero}
-use Rattle.move_image.specs.Moves.{difference}
+use Rattle.reading_rules.specs.Numbers.{Numbered, OwnAudit}
+use Rattle.reading_rules.specs.NumbersLaws.{after-every, numbered-own, own-number, own-zero}
+use Rattle.moves.specs.Moves.{difference}
 use Rattle.move_modules.specs.Widths.{moved-by-width}
 use Rattle.reading_rules.specs.Words.{wordsOf}
 use Rattle.reading_rules.specs.WordsLaws.{widths}
 use Rattle.move_image.specs.Moving.{moveTo}
-use Rattle.audit.specs.declared.Audited.{Audited}
+use Rattle.answers.specs.declared.Audited.{Audited}
 use Rattle.audit_count.specs.declared.Counts.{Counts}
 use Rattle.audit_count.specs.Differences.{differences, settings, strays, bits, entries, countsOf}
 use Rattle.audit.specs.Audit.{shippedBase, reference, differing, refusedAudit, carried, tally, auditing, listed, listedBytes, listing}
@@ -176,10 +180,6 @@ module _ (xs ys : List ℕ) (room : ℕ) where
       ]
 
 -- ---- which numbers and indices an audit answers
-
--- its own refusals are 18, 19 and 20
-abbrev pub OwnAudit : ℕ → Type 0
-OwnAudit k = (18 ≤ k) × (k ≤ 20)
 
 pub audit-numbered : (xs ys : List ℕ) (room : ℕ) → Numbered xs OwnAudit (auditing xs ys room .number) (auditing xs ys room .index)
 unfolding auditing tally

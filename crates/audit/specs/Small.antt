@@ -11,14 +11,14 @@ use Rattle.facts.specs.Fact.{_≤?_, _≡?_, _and_, test}
 use Rattle.words.specs.Le.{le}
 use Rattle.words.specs.Put.{digit}
 use Rattle.words.specs.Number.{number, zeros}
-use Rattle.reading_rules.specs.declared.Reading.{Reading}
+use Rattle.answers.specs.declared.Reading.{Reading}
 use Rattle.reading_rules.specs.Reading.{reading}
-use Rattle.reading_rules.specs.After.{changed-so}
+use Rattle.answers.specs.AfterLaws.{changed-so}
 use Rattle.reading_rules.specs.Small.{small, settingBytes, small-reads}
 use Rattle.move_image.specs.Moving.{moveTo, movedImage}
 use Rattle.move_image.specs.Small.{small-moved}
 use Rattle.audit_count.specs.Differences.{differences, settings, strays, bits, flips, entry, entries}
-use Rattle.audit.specs.declared.Audited.{Audited}
+use Rattle.answers.specs.declared.Audited.{Audited}
 use Rattle.audit.specs.Audit.{shippedBase, reference, differing, tally, auditing, listed}
 use Rattle.audit.specs.AuditLaws.{audit-told}
 

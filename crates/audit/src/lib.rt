@@ -1,6 +1,7 @@
 // Document 01, "The audit".
+use answers::Audited;
+use answers::Reading;
 use audit_count::Counts;
-use reading_rules::Reading;
 ghost use mathlib.Core.Path.{_≡_};
 ghost use Prim.Native.Nat.{_*_, _/_, _≤_, _<_};
 ghost use lib.ListN.{length};
@@ -8,17 +9,6 @@ ghost use Rattle.facts.specs.Fact.{Holds, Tells};
 ghost use Rattle.header.specs.Base.{legalBase};
 ghost use Rattle.reading_rules.specs.Reading.{reading};
 ghost use Rattle.audit.specs.Audit.{shippedBase, refusedAudit, carried, tally, auditing, listing, Audits, AuditsBytes};
-
-// The answer of an audit: number 0 or 20 and the base and counts, or another refusal's number and index and zeros.
-pub struct Audited {
-    pub number: u32,
-    pub index: usize,
-    pub base: u64,
-    pub settings: usize,
-    pub strays: usize,
-    pub bits: usize,
-    pub explained: bool,
-}
 
 fn refused(number: u32, index: usize) -> Audited
     ensures { λ r. ⌜ r ≡ refusedAudit number index ⌝ }

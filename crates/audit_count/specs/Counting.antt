@@ -6,7 +6,7 @@ use mathlib.Core.List.{List}
 use mathlib.Core.Path.{_≡_}
 use lib.ListN.{length, getD}
 use Rattle.facts.specs.Fact.{test}
-use Rattle.reading_rules.specs.declared.Reading.{Reading}
+use Rattle.answers.specs.declared.Reading.{Reading}
 use Rattle.audit_count.specs.declared.Tally.{Tally}
 use Rattle.audit_count.specs.Differences.{differences, setting, settings, strays, bits, flips}
 use Rattle.audit_tables.specs.declared.Ahead.{Ahead}

@@ -7,11 +7,12 @@ use mathlib.Core.Bool.{true, false}
 use Prim.Native.Nat.{ℕ, suc, _+_, _-_, _≤_}
 use native.Mathlib.Omega.{arith}
 use lib.ListN.{length, getD}
-use Rattle.facts.specs.Fact.{Holds, passes, fails}
-use Rattle.facts.specs.Rules.{by-test}
-use Rattle.reading_rules.specs.declared.Reading.{Reading}
+use Rattle.facts.specs.Fact.{Holds}
+use Rattle.facts.specs.FactLaws.{passes, fails}
+use Rattle.facts.specs.RulesLaws.{by-test}
+use Rattle.answers.specs.declared.Reading.{Reading}
 use Rattle.reading_rules.specs.Guarantee.{Guaranteed}
-use Rattle.move_image.specs.MovesLaws.{moved-beside}
+use Rattle.moves.specs.MovesLaws.{moved-beside}
 use Rattle.move_modules.specs.Relocate.{shift}
 use Rattle.reading_rules.specs.Words.{wordsOf}
 use Rattle.reading_rules.specs.WordsLaws.{beside}

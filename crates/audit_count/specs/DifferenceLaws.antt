@@ -6,9 +6,10 @@ use mathlib.Core.Bool.{Bool, true, false, cond}
 use Prim.Native.Nat.{ℕ, zero, suc, _+_, _-_, _≤_, _<_}
 use native.Mathlib.Omega.{arith}
 use lib.ListN.{length}
-use Rattle.facts.specs.Fact.{Holds, test, passes, fails}
-use Rattle.facts.specs.Rules.{by-test}
-use Rattle.reading_rules.specs.declared.Reading.{Reading}
+use Rattle.facts.specs.Fact.{Holds, test}
+use Rattle.facts.specs.FactLaws.{passes, fails}
+use Rattle.facts.specs.RulesLaws.{by-test}
+use Rattle.answers.specs.declared.Reading.{Reading}
 use Rattle.audit_count.specs.Differences.{agrees, differences, setting, settings, strays, entries}
 
 module _ (ref ys : List ℕ) where

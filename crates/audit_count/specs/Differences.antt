@@ -6,7 +6,7 @@ use mathlib.Core.List.{List, [], _∷_}
 use lib.Bits.{differ}
 use lib.ListN.{length, getD}
 use Rattle.facts.specs.Fact.{Fact, _≤?_, _≡?_, _and_, test}
-use Rattle.reading_rules.specs.declared.Reading.{Reading}
+use Rattle.answers.specs.declared.Reading.{Reading}
 use Rattle.audit_count.specs.declared.Counts.{Counts}
 
 -- the byte at k is the reference's

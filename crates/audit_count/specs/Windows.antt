@@ -10,7 +10,7 @@ use Rattle.audit_fill_window.specs.declared.Window.{Window}
 use Rattle.audit_fill_window.specs.declared.Mark.{Mark}
 use Rattle.audit_fill_window.specs.Near.{Standing, Next, Fitting, Onward, at-mark}
 use Rattle.audit_fill_window.specs.StandingLaws.{standing-on, standing-window, next-here}
-use Rattle.reading_rules.specs.declared.Reading.{Reading}
+use Rattle.answers.specs.declared.Reading.{Reading}
 use Rattle.reading_rules.specs.Reading.{fileAt}
 use Rattle.reading_rules.specs.Guarantee.{Guaranteed}
 use Rattle.audit_step.specs.Stride.{Coming}

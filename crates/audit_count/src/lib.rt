@@ -1,8 +1,8 @@
 // Document 01, "The audit": the walk over a vendor image and a shipped file, from word to word, and what it counts.
+use answers::Reading;
 use audit_fill_window::Mark;
 use audit_fill_window::Window;
 use audit_tables::Ahead;
-use reading_rules::Reading;
 ghost use mathlib.Core.Path.{_≡_};
 ghost use Prim.Native.Nat.{_+_, _*_, _^_, _≤_, _<_};
 ghost use lib.ListN.{length};

@@ -8,7 +8,7 @@ use native.Mathlib.Omega.{arith}
 use native.Mathlib.Decide.{ℕ-discrete}
 use lib.Dec.{ltb, eqb}
 use lib.ListN.{length, getD}
-use Rattle.facts.specs.Rules.{by-cond}
+use Rattle.facts.specs.RulesLaws.{by-cond}
 use Rattle.words.specs.Le.{le}
 use Rattle.items.specs.declared.Item.{Item}
 use Rattle.inside_rows.specs.declared.Module.{Module}
@@ -22,7 +22,7 @@ use Rattle.inside_blocks.specs.Blocks.{wordOf, itemOf, entriesFrom}
 use Rattle.inside_blocks.specs.BlocksPaged.{item-on, item-none}
 use Rattle.inside_walk.specs.declared.Spot.{Spot}
 use Rattle.inside_walk.specs.declared.Move.{Move}
-use Rattle.inside_walk.specs.Whole.{ahead, Valid, Stepped}
+use Rattle.inside_walk.specs.WholeWalk.{ahead, Valid, Stepped}
 use Rattle.inside_walk.specs.Entries.{entriesOf, pastOf, ahead-entries}
 use Rattle.audit_marks.specs.Marks.{Marked}
 use Rattle.audit_fill_window.specs.Near.{Has, Telling, Low, Filling, Noting, Filled}

@@ -13,7 +13,8 @@ use Rattle.items.specs.Items.{apartFrom, wordsIn, listed}
 use Rattle.inside_rows.specs.declared.Module.{Module}
 use Rattle.inside_blocks.specs.declared.Cursor.{Cursor}
 use Rattle.inside_walk.specs.declared.Spot.{Spot}
-use Rattle.inside_walk.specs.Whole.{walked, ahead, Valid}
+use Rattle.inside_walk.specs.Whole.{walked}
+use Rattle.inside_walk.specs.WholeWalk.{ahead, Valid}
 use Rattle.inside_walk.specs.Walkable.{Walkable}
 use Rattle.audit_fill_window.specs.declared.Window.{Window}
 use Rattle.audit_fill_window.specs.declared.Mark.{Mark}

@@ -13,14 +13,14 @@ use Rattle.words.specs.Le.{le}
 use Rattle.items.specs.declared.Item.{Item}
 use Rattle.items.specs.Items.{each, apartFrom, inside, wordsIn, nth}
 use Rattle.items.specs.Listed.{words-none, words-more, words-same, spread}
-use Rattle.items.specs.Judged.{from as above}
+use Rattle.items.specs.Shapes.{from as above}
 use Rattle.inside_rows.specs.declared.Module.{Module}
 use Rattle.inside_blocks.specs.declared.Cursor.{Cursor}
 use Rattle.inside_blocks.specs.Blocks.{headsFrom, itemOf, entriesFrom, blocksFrom}
-use Rattle.inside_blocks.specs.Blocks as blocks
+use Rattle.inside_blocks.specs.BlocksWalk as blocksWalk
 use Rattle.inside_walk.specs.declared.Spot.{Spot}
 use Rattle.inside_walk.specs.declared.Move.{Move}
-use Rattle.inside_walk.specs.Whole.{ahead, Valid, Stepped}
+use Rattle.inside_walk.specs.WholeWalk.{ahead, Valid, Stepped}
 use Rattle.inside_walk.specs.WholeAbove.{ahead-above}
 use Rattle.inside_walk.specs.Entries.{entriesOf, pastOf, ahead-entries, past-valid}
 use Rattle.audit_fill_window.specs.Near.{Has, Telling, Done, Low, Passed, Sought}
@@ -139,8 +139,8 @@ has-later (x ∷ l) m k w h = inr (has-later l m k w h)
 
 -- ---- what is ahead starts no lower
 
-module-none : (xs : List ℕ) (m : Module) (c : Cursor) → Done m c → blocks.ahead xs m c ≡ []
-unfolding blocks.ahead headsFrom entriesFrom blocksFrom
+module-none : (xs : List ℕ) (m : Module) (c : Cursor) → Done m c → blocksWalk.ahead xs m c ≡ []
+unfolding blocksWalk.ahead headsFrom entriesFrom blocksFrom
 module-none xs m c (heads, left, used) = let e : m .size - c .used ≡ 0 = omega arith in rw (heads, left, e)
 
 has-from : (n : ℕ) (l : List Item) (k w : ℕ) → Holds (each (above n) l) → Has l k w → 0 < w → n ≤ k
@@ -154,7 +154,7 @@ pub low-above : (xs : List ℕ) (v n : ℕ) (s : Spot) → Valid xs v s → Low 
 low-above xs v n s valid low k w h =
     has-from n (ahead xs v s) k w (ahead-above xs v n s (valid .module-fits) (lies (low .hand)) (low .section) (low .file)) h
   where
-    lies : (n ≤ s .m .lo) ⊎ Done (s .m) (s .c) → (n ≤ s .m .lo) ⊎ (blocks.ahead xs (s .m) (s .c) ≡ [])
+    lies : (n ≤ s .m .lo) ⊎ Done (s .m) (s .c) → (n ≤ s .m .lo) ⊎ (blocksWalk.ahead xs (s .m) (s .c) ≡ [])
     lies (inl l) = inl l
     lies (inr d) = inr (module-none xs (s .m) (s .c) d)
 

@@ -11,7 +11,8 @@ use Rattle.facts.specs.Fact.{Holds}
 use Rattle.words.specs.Le.{Bytes}
 use Rattle.items.specs.Items.{each, inside}
 use Rattle.inside_walk.specs.declared.Spot.{Spot}
-use Rattle.inside_walk.specs.Whole.{walked, ahead, firstSpot}
+use Rattle.inside_walk.specs.Whole.{walked}
+use Rattle.inside_walk.specs.WholeWalk.{ahead, firstSpot}
 use Rattle.inside_walk.specs.WholeLaws.{ahead-first}
 use Rattle.inside_walk.specs.WholeAbove.{walked-inside}
 use Rattle.inside_walk.specs.Walkable.{Walkable, walkable-valid}

@@ -15,8 +15,8 @@ ghost use mathlib.Core.List.{[]};
 ghost use lib.ListN.{length, getD};
 ghost use Rattle.facts.specs.Fact.{Tells, _≤?_, _and_};
 ghost use Rattle.inside_pages.specs.Pages.{Paged};
-ghost use Rattle.inside_walk.specs.Whole.{ahead, Valid};
-ghost use Rattle.inside_modules.specs.Modules.{Fits};
+ghost use Rattle.inside_walk.specs.WholeWalk.{ahead, Valid};
+ghost use Rattle.inside_modules.specs.ModulesFit.{Fits};
 ghost use Rattle.inside_blocks.specs.Blocks.{entriesFrom};
 ghost use Rattle.audit_fill_window.specs.Near.{Has, Telling, Done, Low, Passed, Sought, Noting, Filled};
 

@@ -10,7 +10,7 @@ use lib.ListN.{length, set, length-set}
 use lib.Seq.{sets}
 use Rattle.words.specs.Put.{put, putAll}
 use Rattle.words.specs.PutLaws.{length-put}
-use Rattle.reading_rules.specs.declared.Reading.{Reading}
+use Rattle.answers.specs.declared.Reading.{Reading}
 use Rattle.audit_tables.specs.declared.Ahead.{Ahead}
 use Rattle.audit_step.specs.declared.Step.{Step}
 use Rattle.audit_list.specs.declared.Fill.{Fill}

@@ -1,8 +1,8 @@
 // Document 01, "The audit": the walk that lists every difference in a list in which a place is four bytes.
+use answers::Reading;
 use audit_fill_window::Mark;
 use audit_fill_window::Window;
 use audit_list::Fill;
-use reading_rules::Reading;
 ghost use mathlib.Core.Path.{_≡_};
 ghost use Prim.Native.Nat.{_/_, _≤_, _<_};
 ghost use lib.ListN.{length};

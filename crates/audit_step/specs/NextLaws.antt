@@ -10,7 +10,7 @@ use borrow.Author.Tests.{ltb-true, ltb-false}
 use lib.Dec.{ltb}
 use lib.ListN.{length, length-append}
 use lib.Seq.{getD-append-add}
-use Rattle.facts.specs.Rules.{by-cond}
+use Rattle.facts.specs.RulesLaws.{by-cond}
 use Rattle.words.specs.Le.{le}
 use Rattle.items.specs.declared.Item.{Item}
 use Rattle.items.specs.Items.{skip, wordsIn, nth}
@@ -19,7 +19,7 @@ use Rattle.inside_judge.specs.Rules.{patchItems}
 use Rattle.move_modules.specs.MovableLaws.{movable}
 use Rattle.audit_fill_window.specs.declared.Window.{Window}
 use Rattle.audit_fill_window.specs.Near.{moduleWords, Ordered, Next}
-use Rattle.reading_rules.specs.declared.Reading.{Reading}
+use Rattle.answers.specs.declared.Reading.{Reading}
 use Rattle.reading_rules.specs.Reading.{entriesAt, fileAt}
 use Rattle.reading_rules.specs.Guarantee.{Guaranteed}
 use Rattle.reading_rules.specs.Words.{met, wordsOf}

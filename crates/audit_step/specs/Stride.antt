@@ -8,9 +8,9 @@ use lib.Dec.{ltb}
 use lib.ListN.{length, getD}
 use Rattle.words.specs.Put.{digit}
 use Rattle.move_modules.specs.Relocate.{shift}
-use Rattle.reading_rules.specs.declared.Reading.{Reading}
+use Rattle.answers.specs.declared.Reading.{Reading}
 use Rattle.reading_rules.specs.Words.{wordsOf}
-use Rattle.move_image.specs.Moves.{moved}
+use Rattle.moves.specs.Moves.{moved}
 use Rattle.audit_step.specs.declared.Step.{Step}
 
 -- k is the first position from `from` on at which ys isn't the m bytes of w, written at p, or p + m

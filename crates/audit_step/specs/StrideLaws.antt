@@ -13,12 +13,12 @@ use Rattle.words.specs.Le.{le, Bytes}
 use Rattle.words.specs.Put.{digit, put}
 use Rattle.words.specs.PutLaws.{le-put, put-in, bytes-put, le-one}
 use Rattle.move_modules.specs.Relocate.{shift}
-use Rattle.reading_rules.specs.declared.Reading.{Reading}
+use Rattle.answers.specs.declared.Reading.{Reading}
 use Rattle.reading_rules.specs.Guarantee.{Guaranteed}
 use Rattle.reading_rules.specs.Words.{wordsOf}
 use Rattle.reading_rules.specs.WordsLaws.{spread, widths}
-use Rattle.move_image.specs.Moves.{movedTo, Beside}
-use Rattle.move_image.specs.MovesLaws.{bytes-moved, moved-beside, moved-word}
+use Rattle.moves.specs.Moves.{movedTo, Beside}
+use Rattle.moves.specs.MovesLaws.{bytes-moved, moved-beside, moved-word}
 use Rattle.audit_step.specs.declared.Step.{Step}
 use Rattle.audit_step.specs.Stride.{Reach, by, Alike, Stepped}
 

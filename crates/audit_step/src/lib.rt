@@ -1,5 +1,5 @@
 // Document 01, "The audit": one step of the walk over a vendor image and a shipped file, to the next difference or from word to word.
-use reading_rules::Reading;
+use answers::Reading;
 ghost use mathlib.Core.Bool.{true, cond};
 ghost use mathlib.Core.Logic.{_⊎_};
 ghost use mathlib.Core.Path.{_≡_};

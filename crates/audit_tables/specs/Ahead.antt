@@ -6,7 +6,7 @@ use mathlib.Core.Logic.{_⊎_}
 use mathlib.Core.Path.{_≡_}
 use lib.ListN.{length, getD}
 use Rattle.table_order.specs.Ranks.{Ranked}
-use Rattle.reading_rules.specs.declared.Reading.{Reading}
+use Rattle.answers.specs.declared.Reading.{Reading}
 use Rattle.reading_rules.specs.Reading.{entriesAt}
 use Rattle.move_image.specs.Fixed.{fixedAt}
 use Rattle.audit_tables.specs.declared.Ahead.{Ahead}

@@ -10,7 +10,7 @@ use native.Mathlib.Decide.{ℕ-discrete}
 use lib.ListN.{length, getD}
 use Rattle.table_order.specs.Ranks.{Ranked, Ranks}
 use Rattle.table_order.specs.RanksLaws.{ranked-below}
-use Rattle.reading_rules.specs.declared.Reading.{Reading}
+use Rattle.answers.specs.declared.Reading.{Reading}
 use Rattle.reading_rules.specs.Reading.{entriesAt}
 use Rattle.reading_rules.specs.Guarantee.{Guaranteed}
 use Rattle.move_image.specs.Fixed.{fixedAt}

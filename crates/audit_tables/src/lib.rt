@@ -1,5 +1,5 @@
 // The next of the words that the tables name, the base word and then the patch words in order, for a walk that goes up through the image.
-use reading_rules::Reading;
+use answers::Reading;
 ghost use mathlib.Core.Path.{_≡_};
 ghost use Prim.Native.Nat.{_+_, _≤_, _<_};
 ghost use lib.ListN.{length};

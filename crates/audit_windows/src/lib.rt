@@ -5,7 +5,7 @@ ghost use mathlib.Core.Path.{_≡_};
 ghost use Prim.Native.Nat.{ℕ, _+_, _-_, _≤_, _<_};
 ghost use mathlib.Core.List.{List};
 ghost use lib.ListN.{length};
-ghost use Rattle.inside_walk.specs.Whole.{ahead, Valid};
+ghost use Rattle.inside_walk.specs.WholeWalk.{ahead, Valid};
 ghost use Rattle.inside_walk.specs.Walkable.{Walkable};
 ghost use Rattle.audit_fill_window.specs.Near.{Ordered, Next, Telling, Settled, Refilled, Standing};
 ghost use Rattle.audit_fill_window.specs.Near.{Fitting, Onward, WentOn};

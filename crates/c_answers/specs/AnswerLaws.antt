@@ -5,17 +5,14 @@ use mathlib.Core.Bool.{true, false}
 use mathlib.Core.List.{List}
 use mathlib.Core.Path.{_≡_, refl}
 use native.Mathlib.Omega.{arith}
-use borrow.Author.Tests.{le-leb, lt-leb, ltb-true, eq-eqb, ne-eqb}
+use borrow.Author.Tests.{le-leb, lt-leb, ltb-true}
 use lib.IntN.{ℤ, pos, negsuc, natAbs}
 use lib.Signed.{ltZ}
-use lib.ListN.{length, getD, take, drop}
+use lib.ListN.{length, getD, drop}
 use lib.Seq.{drop-cons, drop-length}
 use Rattle.facts.specs.Fact.{test}
 use Rattle.words.specs.Put.{put, putAll}
-use Rattle.reading_rules.specs.Reading.{reading}
-use Rattle.setting.specs.Setting.{settingNumber, settingPart}
-use Rattle.setting.specs.SettingLaws.{setting-passed, setting-accepted}
-use Rattle.c_answers.specs.Answers.{ifRoom, twos, finding}
+use Rattle.c_answers.specs.Answers.{ifRoom, twos}
 
 module _ {T : Type 0} (k : ℕ) (A : List ℕ) (x y : T) where
   pub roomy : 8 * k ≤ length A → ifRoom k A x y ≡ x
@@ -53,21 +50,3 @@ field-next A fields i h =
 pub fields-end : (A fields : List ℕ) (at i : ℕ) → i ≡ length fields → putAll 8 A at (drop i fields) ≡ A
 unfolding putAll
 fields-end A fields at i e = rw (e, drop-length fields)
-
--- ---- a lookup
-
-module _ (xs : List ℕ) (offset size : ℕ) where
-  pub found-refused : (settingNumber xs offset size ≡ 0 → ⊥)
-      → finding xs offset size ≡ record { number = settingNumber xs offset size; place = 0; length = 0 }
-  unfolding finding
-  found-refused h = rw (ne-eqb (settingNumber xs offset size) 0 h)
-
-  pub found-accepted : settingNumber xs offset size ≡ 0
-      → finding xs offset size ≡ record { number = settingNumber xs offset size; place = reading xs .c + offset; length = size }
-  unfolding finding
-  found-accepted e = rw (eq-eqb (settingNumber xs offset size) 0 e)
-
-  -- the part that it names is the setting's
-  pub found-part : settingNumber xs offset size ≡ 0
-      → settingPart xs offset size ≡ take (finding xs offset size .length) (drop (finding xs offset size .place) xs)
-  found-part e = let p = setting-passed xs offset size e in rw (found-accepted e) (setting-accepted xs offset size (p .0) (p .1) .1)

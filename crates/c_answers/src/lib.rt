@@ -1,14 +1,15 @@
 // The answers of the C calls, written in a lent buffer: eight bytes a field, the number first.
-use audit::Audited;
-use contents::Listed;
-use move_image::Moved;
-use reading_rules::Reading;
+use answers::Audited;
+use answers::Found;
+use answers::Listed;
+use answers::Moved;
+use answers::Reading;
 use sheet::SheetReading;
 ghost use mathlib.Core.Path.{_≡_};
 ghost use Prim.Native.Nat.{_*_, _≤_};
 ghost use lib.ListN.{length};
 ghost use Rattle.words.specs.Put.{putAll};
-ghost use Rattle.c_answers.specs.Answers.{twos, readFields, moveFields, sheetFields, Finds, settingFields, auditFields, listFields};
+ghost use Rattle.c_answers.specs.Answers.{twos, readFields, moveFields, sheetFields, settingFields, auditFields, listFields};
 
 // The fields, eight bytes each, from the buffer's start on.
 pub fn write_fields(answer: &mut [u8], fields: &[u64])
@@ -48,7 +49,7 @@ pub fn write_reading(answer: &mut [u8], r: Reading)
 fn twos_complement(x: i64) -> u64
     ensures { λ r. ⌜ r ≡ twos x ⌝ }
 {
-    let m = move_image::magnitude(x);
+    let m = move_answer::magnitude(x);
     if x < 0 {
         return 18446744073709551615 - (m - 1);
     }
@@ -76,32 +77,6 @@ pub fn write_sheet_reading(answer: &mut [u8], r: SheetReading)
         k.extended as u64,
     ];
     write_fields(answer, &fields);
-}
-
-// The answer of a lookup: number 0 and where in the image the setting stands, or the refusal's number and zeros.
-pub struct Found {
-    pub number: u32,
-    pub place: u64,
-    pub length: u64,
-}
-
-pub fn find(image: &[u8], offset: u64, size: u64) -> Found
-    ensures { λ r. ⌜ Finds (now (image .entry)) offset size r ⌝ }
-{
-    let number = setting::setting_number(image, offset, size);
-    if number != 0 {
-        return Found {
-            number,
-            place: 0,
-            length: 0,
-        };
-    }
-    let r = reading::read(image);
-    Found {
-        number,
-        place: r.c as u64 + offset,
-        length: size,
-    }
 }
 
 pub fn write_found(answer: &mut [u8], r: Found)

@@ -25,12 +25,12 @@ fn line() {
     io::write_all(STDOUT_FILENO, b"\n");
 }
 
-fn names(k: reading_rules::Identity) {
+fn names(k: answers::Identity) {
     field(k.image);
     field(k.revision as u64);
 }
 
-fn places(r: reading_rules::Reading) {
+fn places(r: answers::Reading) {
     field(r.base);
     field(r.c as u64);
     field(r.z as u64);
@@ -38,7 +38,7 @@ fn places(r: reading_rules::Reading) {
     field(r.E as u64);
 }
 
-fn show_reading(r: reading_rules::Reading) {
+fn show_reading(r: answers::Reading) {
     io::print_decimal(STDOUT_FILENO, r.number as u64);
     field(r.index as u64);
     field(r.H as u64);
@@ -50,14 +50,14 @@ fn show_reading(r: reading_rules::Reading) {
     line();
 }
 
-fn show_move(m: move_image::Moved) {
+fn show_move(m: answers::Moved) {
     io::print_decimal(STDOUT_FILENO, m.number as u64);
     field(m.index as u64);
     io::write_all(STDOUT_FILENO, b" ");
     if m.distance < 0 {
         io::write_all(STDOUT_FILENO, b"-");
     }
-    io::print_decimal(STDOUT_FILENO, move_image::magnitude(m.distance));
+    io::print_decimal(STDOUT_FILENO, move_answer::magnitude(m.distance));
     line();
 }
 
@@ -82,7 +82,7 @@ fn call_setting(image: &[u8], offset: u64, size: u64) {
     show_bytes(part);
 }
 
-fn show_audit(a: audit::Audited) {
+fn show_audit(a: answers::Audited) {
     io::print_decimal(STDOUT_FILENO, a.number as u64);
     field(a.index as u64);
     field(a.base);

@@ -10,7 +10,7 @@ use Rattle.words.specs.Le.{le}
 use Rattle.words.specs.Put.{put, putAll}
 use Rattle.table.specs.Passes.{place}
 use Rattle.inside_judge.specs.Rules.{patchFrom, patchItems}
-use Rattle.reading_rules.specs.declared.Reading.{Reading}
+use Rattle.answers.specs.declared.Reading.{Reading}
 use Rattle.reading_rules.specs.Reading.{entriesAt, fileAt}
 use Rattle.reading_rules.specs.Guarantee.{Guaranteed}
 use Rattle.inside_list.specs.Inventory.{entry, inventory}

@@ -11,12 +11,12 @@ use Rattle.words.specs.Le.{le}
 use Rattle.words.specs.Put.{putAll}
 use Rattle.items.specs.declared.Item.{Item}
 use Rattle.inside_judge.specs.Rules.{patchItems}
-use Rattle.reading_rules.specs.declared.Reading.{Reading}
+use Rattle.answers.specs.declared.Reading.{Reading}
 use Rattle.reading_rules.specs.Reading.{entriesAt, fileAt, reading}
-use Rattle.reading_rules.specs.After.{afterReading, unlessRefused}
+use Rattle.answers.specs.After.{afterReading, unlessRefused}
 use Rattle.inside_list.specs.declared.Counts.{Counts}
 use Rattle.inside_list.specs.Inventory.{entry, inventory, countsOf}
-use Rattle.contents.specs.declared.Listed.{Listed}
+use Rattle.answers.specs.declared.Listed.{Listed}
 
 -- the places of these items with one code
 unfoldable pub coded : ℕ → List Item → List ℕ

@@ -8,16 +8,18 @@ use mathlib.Core.Path.{_≡_, refl, sym, ap, _∙_}
 use native.Mathlib.Omega.{arith}
 use native.Mathlib.Decide.{ℕ-discrete}
 use lib.ListN.{length, length-append}
-use Rattle.facts.specs.Fact.{_≤?_, test, passes, fails}
-use Rattle.facts.specs.Rules.{Rules, answer, run, by-test}
+use Rattle.facts.specs.Fact.{_≤?_, test}
+use Rattle.facts.specs.FactLaws.{passes, fails}
+use Rattle.facts.specs.Rules.{Rules, answer, run}
+use Rattle.facts.specs.RulesLaws.{by-test}
 use Rattle.words.specs.Le.{le, Bytes}
 use Rattle.items.specs.declared.Item.{Item}
 use Rattle.items.specs.Items.{word, wordsIn}
 use Rattle.inside_judge.specs.Rules.{patchFrom, patchItems}
 use Rattle.inside_judge.specs.RulesLaws.{patches-count}
-use Rattle.reading_rules.specs.declared.Reading.{Reading}
+use Rattle.answers.specs.declared.Reading.{Reading}
 use Rattle.reading_rules.specs.Reading.{entriesAt, fileAt, wordAt, reading}
-use Rattle.reading_rules.specs.After.{after-accepted, after-refused}
+use Rattle.answers.specs.AfterLaws.{after-accepted, after-refused}
 use Rattle.reading_rules.specs.Guarantee.{Guaranteed, guaranteed}
 use Rattle.reading_rules.specs.Words.{met, wordsOf}
 use Rattle.move_image.specs.Fixed.{fixed}
@@ -27,7 +29,7 @@ use Rattle.inside_list.specs.Inventory.{entry, inventory, codeOf, placeOf, plac
 use Rattle.inside_list.specs.InventoryLaws.{places-same, from-more, from-join, four-wide, inventory-words}
 use Rattle.inside_list.specs.Counting.{plus, same-counts, counts-join, places-less, from-less, inventory-sum}
 use Rattle.inside_list.specs.Few.{inventory-few}
-use Rattle.contents.specs.declared.Listed.{Listed}
+use Rattle.answers.specs.declared.Listed.{Listed}
 use Rattle.contents.specs.Listing.{coded, tableEntries, entriesFor, listing, refusedList, counted, contents}
 
 -- ---- the tables' words

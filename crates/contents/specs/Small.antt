@@ -18,8 +18,8 @@ use Rattle.inside_places.specs.Places.{shifted, found}
 use Rattle.inside_blocks.specs.Blocks.{headItem, headsFrom, headCount, wordOf, itemOf, entriesFrom, blocksFrom, items}
 use Rattle.inside_walk.specs.Whole.{moduleIn}
 use Rattle.inside_judge.specs.Rules.{patchFrom}
-use Rattle.reading_rules.specs.declared.Reading.{Reading}
-use Rattle.reading_rules.specs.After.{afterReading}
+use Rattle.answers.specs.declared.Reading.{Reading}
+use Rattle.answers.specs.After.{afterReading}
 use Rattle.facts.specs.Rules.{run}
 use Rattle.reading_rules.specs.Small.{small, settingBytes, smallReading, small-reads}
 use Rattle.inside_list.specs.Inventory.{entry, wordEntries, moduleEntries, fileOf, entriesOf, inventory, placesOf, widthOf, wordsFrom}

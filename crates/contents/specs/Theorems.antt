@@ -8,29 +8,26 @@ use native.Mathlib.Omega.{arith}
 use native.Mathlib.Nat.{mod-eq-of-lt}
 use lib.ListN.{length, getD}
 use Rattle.facts.specs.Fact.{_≤?_}
-use Rattle.facts.specs.Rules.{by-test}
+use Rattle.facts.specs.RulesLaws.{by-test}
 use Rattle.words.specs.Le.{le}
 use Rattle.words.specs.Put.{putAll}
 use Rattle.words.specs.PutLaws.{putAll-above, le-putAll}
 use Rattle.inside_judge.specs.Rules.{patchFrom}
-use Rattle.reading_rules.specs.declared.Reading.{Reading}
+use Rattle.answers.specs.declared.Reading.{Reading}
 use Rattle.reading_rules.specs.Reading.{entriesAt, fileAt, reading}
 use Rattle.reading_rules.specs.Guarantee.{Guaranteed, guaranteed}
-use Rattle.reading_rules.specs.After.{changed-so, kept-so}
-use Rattle.reading_rules.specs.Numbers.{Numbered, after-every, numbered-own, own-number, own-zero}
+use Rattle.answers.specs.AfterLaws.{changed-so, kept-so}
+use Rattle.reading_rules.specs.Numbers.{Numbered, OwnList}
+use Rattle.reading_rules.specs.NumbersLaws.{after-every, numbered-own, own-number, own-zero}
 use Rattle.inside_list.specs.Inventory.{inventory}
 use Rattle.inside_list.specs.Narrow.{Narrow, narrow-at, narrow-join, inventory-narrow}
-use Rattle.contents.specs.declared.Listed.{Listed}
+use Rattle.answers.specs.declared.Listed.{Listed}
 use Rattle.contents.specs.Listing.{coded, tableEntries, entriesFor, listing, refusedList, contents, contentsIn, Lists}
 use Rattle.contents.specs.ListingLaws.{list-accepted}
 
 -- any two outcomes that it admits are the same
 pub one-listing : (xs bytes : List ℕ) (a b : Listed) (l m : List ℕ) → Lists xs bytes a l → Lists xs bytes b m → (a ≡ b) × (l ≡ m)
 one-listing xs bytes a b l m (p, q) (s, t) = (p ∙ sym s, q ∙ sym t)
-
--- its own refusal is 20
-abbrev pub OwnList : ℕ → Type 0
-OwnList k = k ≡ 20
 
 pub listing-numbered : (xs : List ℕ) (room : ℕ) → Numbered xs OwnList (contents xs room .number) (contents xs room .index)
 unfolding contents

@@ -1,6 +1,7 @@
 // Request #107: what an image holds, as a list that the caller lends: every word of a move, and each module with its file and its section.
+use answers::Listed;
+use answers::Reading;
 use inside_list::Counts;
-use reading_rules::Reading;
 ghost use mathlib.Core.Path.{_≡_};
 ghost use Prim.Native.Nat.{_+_, _*_, _≤_};
 ghost use lib.ListN.{length};
@@ -10,15 +11,6 @@ ghost use Rattle.reading_rules.specs.Reading.{entriesAt, reading};
 ghost use Rattle.reading_rules.specs.Guarantee.{Guaranteed};
 ghost use Rattle.inside_list.specs.Inventory.{countsOf};
 ghost use Rattle.contents.specs.Listing.{coded, entriesFor, refusedList, counted, contents, Lists};
-
-// The answer: number 0 or 20 and the counts, or another refusal's number and index and zeros.
-pub struct Listed {
-    pub number: u32,
-    pub index: usize,
-    pub modules: usize,
-    pub words: usize,
-    pub entries: usize,
-}
 
 fn refused(number: u32, index: usize) -> Listed
     ensures { λ r. ⌜ r ≡ refusedList number index ⌝ }

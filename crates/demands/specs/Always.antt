@@ -12,7 +12,8 @@ use Rattle.reading_rules.specs.Reading.{reading}
 use Rattle.audit.specs.Audit.{shippedBase, differing, auditing}
 use Rattle.demands.specs.Explains.{Explains}
 use Rattle.demands.specs.Explained.{explains-base, explains-told, told-counts}
-use Rattle.demands.specs.Made.{Made, made-explains}
+use Rattle.demands.specs.Made.{Made}
+use Rattle.demands.specs.MadeLaws.{made-explains}
 
 pub made-explained : (xs zs places : List ℕ) (base : ℕ) → reading xs .number ≡ 0 → Bytes xs → Made xs zs base
     → length (differing xs zs) ≤ length places

@@ -1,32 +1,15 @@
 -- What "as released" means of a shipped file: it is the release, byte for byte. A release is made and the file audited against it: no
 -- difference and the release's own base are found exactly where the file is what the release made.
 -- Assumes nothing.
-use Prim.Native.Nat.{ℕ, zero, suc, _+_, _≤_, _<_}
-use mathlib.Core.List.{List, []}
-use mathlib.Core.Path.{_≡_, refl, sym, ap, _∙_}
-use native.Mathlib.Omega.{arith}
-use native.Mathlib.Decide.{decLt, ℕ-discrete}
-use lib.ListN.{length, getD}
-use lib.Seq.{ext-getD}
+use Prim.Native.Nat.{ℕ}
+use mathlib.Core.List.{List}
+use mathlib.Core.Path.{_≡_}
 use Rattle.words.specs.Le.{Bytes}
-use Rattle.reading_rules.specs.declared.Reading.{Reading}
-use Rattle.reading_rules.specs.Reading.{reading}
-use Rattle.reading_rules.specs.Guarantee.{guaranteed}
-use Rattle.reading_rules.specs.Small.{small, settingBytes}
-use Rattle.move_image.specs.declared.Moved.{Moved}
-use Rattle.move_image.specs.Moving.{movedImage}
-use Rattle.sheet.specs.Small.{sample}
-use Rattle.release_steps.specs.MoveStep.{moved-nowhere}
-use Rattle.release.specs.Release.{releasing, releasedImage, Releases}
-use Rattle.release_laws.specs.Theorems.{released-fits, released-reads, bytes-released}
-use Rattle.release_laws.specs.Small.{two}
+use Rattle.answers.specs.declared.Moved.{Moved}
+use Rattle.release.specs.Release.{Releases}
 use Rattle.audit_count.specs.Differences.{settings, strays}
-use Rattle.audit_count.specs.DifferenceLaws.{counts}
-use Rattle.audit.specs.declared.Audited.{Audited}
-use Rattle.audit.specs.Audit.{shippedBase, reference, differing, auditing, Audits}
-use Rattle.audit.specs.AuditLaws.{Accepted, audit-accepted}
-use Rattle.demands.specs.Explained.{told-always, told-counts, differs-at, all-listed}
-use Rattle.demands.specs.Met.{maker-bytes, maker-reads, maker-goes, sample-bytes}
+use Rattle.answers.specs.declared.Audited.{Audited}
+use Rattle.audit.specs.Audit.{Audits}
 
 -- the audit finds nothing, and names this base
 abbrev pub Clean : Audited → ℕ → Type 0
@@ -38,80 +21,3 @@ As-released =
     (xs s : List ℕ) (base : ℕ) (o : List ℕ) (owner : ℕ) (r : Moved) (zs ys places : List ℕ) (a : Audited) (l : List ℕ) → Bytes xs → Bytes s
     → Releases xs s base o owner r zs → r .number ≡ 0 → Audits zs ys places a l → a .number ≡ 0
     → (Clean a base → ys ≡ zs) × (ys ≡ zs → Clean a base)
-
--- ---- it holds
-
-module _ (xs ys : List ℕ) (bytes : Bytes xs) (read : reading xs .number ≡ 0) where
-  -- the reference at the file's own base is the image where that is its base
-  reference-same : shippedBase xs ys ≡ reading xs .base → reference xs ys ≡ xs
-  unfolding reference movedImage
-  reference-same e = ap (λ (b : ℕ). movedImage xs b) e ∙ moved-nowhere xs bytes read
-
-  -- a file that is the image has its base, and differs nowhere
-  same-base : ys ≡ xs → shippedBase xs ys ≡ reading xs .base
-  same-base same = ap (λ (l : List ℕ). shippedBase xs l) same ∙ sym (guaranteed xs read .base-is)
-
-  same-nowhere : ys ≡ xs → length (differing xs ys) ≡ 0
-  same-nowhere same =
-      elim (decLt 0 (length (differing xs ys))) [
-        | no h ↦ omega arith
-        | yes h ↦
-            let k = getD (differing xs ys) 0 0 in
-            absurd (differs-at xs ys 0 h .1 (ap (λ (l : List ℕ). getD l k 0) (same ∙ sym (reference-same (same-base same)))))
-      ]
-
-module _ (xs ys places : List ℕ) (bytes : Bytes xs) (ok : auditing xs ys (length places) .number ≡ 0) where
-  passed : Accepted xs ys (length places)
-  passed = audit-accepted xs ys (length places) ok
-
-  true-counts : (auditing xs ys (length places) .base ≡ shippedBase xs ys) ×
-      (auditing xs ys (length places) .settings ≡ settings (reading xs) (differing xs ys))
-      × (auditing xs ys (length places) .strays ≡ strays (reading xs) (differing xs ys))
-  true-counts = let t = told-always xs ys places (passed .read) (passed .paired) (passed .legal) in (t .0, t .1, t .2)
-
-  clean-same : Clean (auditing xs ys (length places)) (reading xs .base) → ys ≡ xs
-  clean-same (no-settings, no-strays, home) =
-      let (base, of-settings, of-strays) = true-counts in
-      let none : length (differing xs ys) ≡ 0 = omega (arith, counts (reading xs) (differing xs ys)) in
-      let is : reference xs ys ≡ xs = reference-same xs ys bytes (passed .read) (sym base ∙ home) in
-      ext-getD 0 ys xs (passed .paired)
-      (λ k h.
-      elim (ℕ-discrete (getD ys k 0) (getD (reference xs ys) k 0)) [
-        | yes same ↦ same ∙ ap (λ (l : List ℕ). getD l k 0) is
-        | no differs ↦
-            let (i, inside, at) = all-listed xs ys k (omega (arith, passed .paired)) differs in
-            absurd (omega arith)
-      ])
-
-  same-clean : ys ≡ xs → Clean (auditing xs ys (length places)) (reading xs .base)
-  same-clean same =
-      let (base, of-settings, of-strays) = true-counts in
-      let none = same-nowhere xs ys bytes (passed .read) same in
-      let sum = counts (reading xs) (differing xs ys) in
-      (omega arith, omega arith, base ∙ same-base xs ys bytes (passed .read) same)
-
-pub as-released : As-released
-as-released xs s base o owner r zs ys places a l bx bs (answer, image) none (told, list) accepted =
-    let ok : releasing xs s base o owner .number ≡ 0 = sym (ap (λ (m : Moved). m .number) answer) ∙ none in
-    let home : reading zs .base ≡ base =
-    ap (λ (q : List ℕ). reading q .base) image ∙ ap (λ (q : Reading). q .base) (released-reads xs s base o owner ok bx bs) in
-    let bz : Bytes zs = rw image (bytes-released xs s base o owner ok bx bs) in
-    let fine : auditing zs ys (length places) .number ≡ 0 = sym (ap (λ (q : Audited). q .number) told) ∙ accepted in (
-      (λ clean. clean-same zs ys places bz fine (rw (← told, home) clean)),
-      (λ same. rw (told, ← home) (same-clean zs ys places bz fine same)),
-    )
-
--- ---- and speaks of something: the small image as it was released, and that file itself
-
-abbrev file : List ℕ
-file = releasedImage (small 0xFFF80000 0xFFF80040 (settingBytes 0 1)) sample 0x00100000 two 1
-
-pub file-audits : auditing file file 0 .number ≡ 0
-file-audits =
-    let maker = small 0xFFF80000 0xFFF80040 (settingBytes 0 1) in
-    let bytes = bytes-released maker sample 0x00100000 two 1 maker-goes maker-bytes sample-bytes in
-    let reads = released-reads maker sample 0x00100000 two 1 maker-goes maker-bytes sample-bytes in
-    let read : reading file .number ≡ 0 = ap (λ (r : Reading). r .number) reads ∙ maker-reads in
-    let home = same-base file file bytes read refl in
-    let none = same-nowhere file file bytes read refl in
-    told-counts file file [] read refl (rw home (guaranteed file read .legal)) (omega arith) .0

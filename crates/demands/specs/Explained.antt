@@ -10,20 +10,21 @@ use native.Mathlib.Omega.{arith}
 use native.Mathlib.Decide.{decLt, ℕ-discrete}
 use lib.ListN.{length, getD, take, drop, length-take, length-drop, List·getD-append, List·getD-eq-default}
 use lib.Seq.{ext-getD, sets, sets-eq, length-sets, getD-append-add, getD-take, getD-drop}
-use Rattle.facts.specs.Fact.{Fact, Holds, _≤?_, _≡?_, _and_, test, passes, fails, holds}
-use Rattle.facts.specs.Rules.{by-test}
+use Rattle.facts.specs.Fact.{Fact, Holds, _≤?_, _≡?_, _and_, test}
+use Rattle.facts.specs.FactLaws.{passes, fails, holds}
+use Rattle.facts.specs.RulesLaws.{by-test}
 use Rattle.words.specs.Le.{le, Bytes}
 use Rattle.words.specs.LeLaws.{le-cong}
 use Rattle.header.specs.Base.{legalBase}
-use Rattle.reading_rules.specs.declared.Reading.{Reading}
+use Rattle.answers.specs.declared.Reading.{Reading}
 use Rattle.reading_rules.specs.Reading.{reading}
-use Rattle.reading_rules.specs.After.{changed-so, kept-so}
+use Rattle.answers.specs.AfterLaws.{changed-so, kept-so}
 use Rattle.reading_rules.specs.Guarantee.{guaranteed}
 use Rattle.move_image.specs.Moving.{movedImage}
 use Rattle.release_steps.specs.MoveStep.{length-after, moved-reads}
-use Rattle.sheet.specs.PartLaws.{length-joined, joined-low, joined-mid, joined-high}
-use Rattle.sheet.specs.Set.{joined}
-use Rattle.audit.specs.declared.Audited.{Audited}
+use Rattle.sheet_bodies.specs.PartLaws.{length-joined, joined-low, joined-mid, joined-high}
+use Rattle.sheet_bodies.specs.Set.{joined}
+use Rattle.answers.specs.declared.Audited.{Audited}
 use Rattle.audit_count.specs.Differences.{agrees, differences, setting, entry, settings, strays, bits, entries}
 use Rattle.audit_count.specs.DifferenceLaws.{counts, length-entries}
 use Rattle.audit.specs.Audit.{shippedBase, reference, differing, tally, auditing, listed}

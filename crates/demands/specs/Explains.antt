@@ -9,7 +9,7 @@ use Rattle.facts.specs.Fact.{Holds}
 use Rattle.header.specs.Base.{legalBase}
 use Rattle.reading_rules.specs.Reading.{reading}
 use Rattle.move_image.specs.Moving.{movedImage}
-use Rattle.sheet.specs.Set.{joined}
+use Rattle.sheet_bodies.specs.Set.{joined}
 
 -- this legal base and these setting bytes, c+32..c+z-1, turn xs into ys
 pub record Turns (xs ys : List ℕ) (base : ℕ) (part : List ℕ) : Type 0 where

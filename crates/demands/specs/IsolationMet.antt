@@ -13,20 +13,22 @@ use Rattle.facts.specs.Rules.{run}
 use Rattle.words.specs.Le.{le, Bytes}
 use Rattle.words.specs.Put.{digit}
 use Rattle.words.specs.Number.{number, zeros}
-use Rattle.reading_rules.specs.declared.Reading.{Reading}
+use Rattle.answers.specs.declared.Reading.{Reading}
 use Rattle.reading_rules.specs.Reading.{rebased, reading}
-use Rattle.reading_rules.specs.After.{afterReading}
+use Rattle.answers.specs.After.{afterReading}
 use Rattle.reading_rules.specs.Small.{small, settingBytes, small-reads}
-use Rattle.move_image.specs.declared.Moved.{Moved}
-use Rattle.move_image.specs.Moving.{refusedMove}
+use Rattle.answers.specs.declared.Moved.{Moved}
+use Rattle.move_answer.specs.MoveAnswer.{refusedMove}
 use Rattle.sheet.specs.Sheet.{bodyAt}
-use Rattle.sheet.specs.Small.{sample}
-use Rattle.release.specs.Release.{nameRules, releaseRules, releasing, releasedImage}
+use Rattle.sheet_bodies.specs.Small.{sample}
+use Rattle.release.specs.Release.{releasing, releasedImage}
+use Rattle.release_judge.specs.Judged.{nameRules, releaseRules}
 use Rattle.release.specs.ReleaseLaws.{release-kept}
 use Rattle.release_laws.specs.Small.{two}
 use Rattle.release_laws.specs.Theorems.{released-reads, length-released, bytes-released}
 use Rattle.demands.specs.Met.{bytes-so, maker-bytes, maker-reads, sample-bytes}
-use Rattle.demands.specs.Isolation.{Call, afterAll, answers, answersBut, without, Keeps, SheetBytes, Isolated, isolation}
+use Rattle.demands.specs.Isolation.{Call, afterAll, answers, answersBut, without, Keeps, SheetBytes, Isolated}
+use Rattle.demands.specs.IsolationHolds.{isolation}
 
 -- a sheet for bytes 42 and 43, which are owner 2's
 unfoldable pub second : List ℕ

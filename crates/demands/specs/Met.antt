@@ -10,16 +10,16 @@ use lib.Dec.{ltb}
 use lib.ListN.{length, getD}
 use borrow.Author.Tests.{ltb-true}
 use Rattle.facts.specs.Fact.{Holds}
-use Rattle.facts.specs.Rules.{and-left, and-right}
+use Rattle.facts.specs.RulesLaws.{and-left, and-right}
 use Rattle.words.specs.Le.{le, Bytes}
 use Rattle.words.specs.Put.{digit}
 use Rattle.words.specs.Number.{number, zeros}
 use Rattle.header.specs.Base.{legalBase}
-use Rattle.reading_rules.specs.declared.Reading.{Reading}
+use Rattle.answers.specs.declared.Reading.{Reading}
 use Rattle.reading_rules.specs.Reading.{reading}
 use Rattle.reading_rules.specs.Small.{small, settingBytes, small-reads}
-use Rattle.move_image.specs.declared.Moved.{Moved}
-use Rattle.sheet.specs.Small.{sample}
+use Rattle.answers.specs.declared.Moved.{Moved}
+use Rattle.sheet_bodies.specs.Small.{sample}
 use Rattle.release.specs.Release.{releasing, releasedImage}
 use Rattle.release_laws.specs.Small.{two, small-release, small-released}
 use Rattle.demands.specs.Made.{Made, start, then}

@@ -10,7 +10,7 @@ use lib.Seq.{getD-append-add}
 use Rattle.facts.specs.Fact.{Holds}
 use Rattle.words.specs.Le.{le, Bytes}
 use Rattle.words.specs.Number.{number, length-number, le-front, le-back, le-number, bytes-append, bytes-number}
-use Rattle.reading_rules.specs.declared.Identity.{Identity}
+use Rattle.answers.specs.declared.Identity.{Identity}
 use Rattle.sheet.specs.Sheet.{sheetIdentity, count, offset, size, position, bodyAt, contentsFit, bodiesFit, sameIdentity, fieldFits, Sound}
 
 -- a number that stands first

@@ -5,8 +5,8 @@ use mathlib.Core.List.{List, [], _∷_}
 use mathlib.Core.Path.{_≡_, refl, sym}
 use native.Mathlib.Omega.{arith}
 use lib.ListN.{length}
-use Rattle.facts.specs.Fact.{passes, fails}
-use Rattle.facts.specs.Rules.{by-test}
+use Rattle.facts.specs.FactLaws.{passes, fails}
+use Rattle.facts.specs.RulesLaws.{by-test}
 use Rattle.handoff_list.specs.declared.Counted.{Counted}
 use Rattle.handoff_step.specs.declared.Stepped.{Stepped}
 use Rattle.handoff_step.specs.Step.{refusal, stepped}

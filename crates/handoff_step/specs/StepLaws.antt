@@ -7,8 +7,10 @@ use mathlib.Core.Logic.{inl, inr}
 use mathlib.Core.Path.{_≡_, refl, sym}
 use native.Mathlib.Omega.{arith}
 use lib.ListN.{length}
-use Rattle.facts.specs.Fact.{_≤?_, _≡?_, _and_, Holds, fails}
-use Rattle.facts.specs.Rules.{Passed, passed, run, run-passed, by-test}
+use Rattle.facts.specs.Fact.{_≤?_, _≡?_, _and_, Holds}
+use Rattle.facts.specs.FactLaws.{fails}
+use Rattle.facts.specs.Rules.{run}
+use Rattle.facts.specs.RulesLaws.{Passed, passed, run-passed, by-test}
 use Rattle.words.specs.Le.{Alike}
 use Rattle.words.specs.LeLaws.{le-in}
 use Rattle.handoff_step.specs.declared.Kind.{Kind}

@@ -3,7 +3,8 @@
 use Prim.Native.Nat.{ℕ, _+_, _%_, _^_}
 use mathlib.Core.Bool.{Bool}
 use mathlib.Core.Path.{_≡_, sym, _∙_}
-use Rattle.facts.specs.Fact.{Fact, _≤?_, _≡?_, _and_, Tells, is-test}
+use Rattle.facts.specs.Fact.{Fact, _≤?_, _≡?_, _and_, Tells}
+use Rattle.facts.specs.FactLaws.{is-test}
 
 -- a multiple of 2^12 from which an image of this size ends at 2^32 or below
 abbrev pub legalBase : ℕ → ℕ → Fact

@@ -6,8 +6,9 @@ use mathlib.Core.Path.{_≡_, sym, _∙_}
 use native.Mathlib.Omega.{arith}
 use native.Mathlib.Decide.{decLt}
 use lib.ListN.{length}
-use Rattle.facts.specs.Fact.{Holds, test, passes, fails}
-use Rattle.facts.specs.Rules.{by-test}
+use Rattle.facts.specs.Fact.{Holds, test}
+use Rattle.facts.specs.FactLaws.{passes, fails}
+use Rattle.facts.specs.RulesLaws.{by-test}
 use Rattle.words.specs.Le.{le, Bytes, Alike}
 use Rattle.words.specs.LeLaws.{le-in, le-lt}
 use Rattle.header.specs.Header.{hasExtended, headerFits, sizeFits, component, extendedNumber}

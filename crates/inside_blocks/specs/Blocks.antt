@@ -1,12 +1,10 @@
 -- Request #107: the items of one module: its headers with the image base, then its relocation blocks with their entries.
 -- Assumes nothing.
-use Prim.Native.Nat.{ℕ, zero, suc, _+_, _-_, _*_, _/_, _%_, _≤_, _<_}
+use Rattle.inside_rows.specs.Rows.{peKind, teKind}
+use Prim.Native.Nat.{ℕ, zero, suc, _+_, _-_, _*_, _/_, _%_}
 use mathlib.Core.Bool.{cond}
 use mathlib.Core.List.{List, [], _∷_, _++_}
-use mathlib.Core.Logic.{_⊎_}
-use mathlib.Core.Path.{_≡_}
 use lib.Dec.{ltb, eqb}
-use lib.ListN.{length}
 use Rattle.facts.specs.Fact.{Fact, _≤?_, _≡?_, _and_, test}
 use Rattle.words.specs.Le.{le}
 use Rattle.items.specs.declared.Item.{Item}
@@ -14,8 +12,6 @@ use Rattle.items.specs.Items.{keep, word, skip, alien, broken, lost}
 use Rattle.inside_rows.specs.declared.Module.{Module}
 use Rattle.inside_places.specs.declared.Span.{Span}
 use Rattle.inside_places.specs.Places.{found}
-use Rattle.inside_blocks.specs.declared.Cursor.{Cursor}
-use Rattle.inside_blocks.specs.declared.Turn.{Turn}
 
 -- ---- headers
 
@@ -34,7 +30,7 @@ headsFrom m (suc k) = headItem m k ∷ headsFrom m k
 
 -- a PE32 module has four, a TE module three, anything else none
 unfoldable pub headCount : Module → ℕ
-headCount m = cond (eqb (m .kind) 0x10) 4 (cond (eqb (m .kind) 0x12) 3 0)
+headCount m = cond (eqb (m .kind) peKind) 4 (cond (eqb (m .kind) teKind) 3 0)
 
 -- ---- blocks
 
@@ -78,40 +74,3 @@ blocksFrom xs m (suc n) u =
 -- ---- all of them
 unfoldable pub items : List ℕ → Module → List Item
 items xs m = headsFrom m (headCount m) ++ blocksFrom xs m (m .size) 0
-
--- ---- the cursor
-
--- what a cursor has yet to pass: headers, entries of the block at hand, the blocks after it
-unfoldable pub ahead : List ℕ → Module → Cursor → List Item
-ahead xs m c =
-    headsFrom m (c .heads) ++ (entriesFrom xs m (c .page) (c .at) (c .left) ++ blocksFrom xs m (m .size - c .used) (c .used))
-
--- where it starts
-unfoldable pub startOf : Module → Cursor
-startOf m = record { heads = headCount m; used = 0; at = 0; left = 0; page = 0 }
-
--- how far it is from the end
-abbrev pub far : Module → Cursor → ℕ
-far m c = (c .heads * 8589934592 + (m .size - c .used)) * 16777216 + c .left
-
--- a cursor as the walk makes it
-pub record Valid (xs : List ℕ) (c : Cursor) : Type 0 where
-  pub few : c .heads ≤ 4
-  pub within : c .at + 2 * c .left ≤ length xs
-  pub used-small : c .used < 8589934592
-  pub page-small : c .page < 4294967296
-
--- the entries to come of its block lie in the k bytes at p
-abbrev pub EntriesIn : ℕ → ℕ → Cursor → Type 0
-EntriesIn p k c = (p ≤ c .at) × (c .at + 2 * c .left ≤ p + k)
-
--- a step from c: its item is the next of those ahead, and the rest is ahead of the cursor that it gives
-pub record Stepped (xs : List ℕ) (m : Module) (c : Cursor) (s : Turn) : Type 0 where
-  pub ends : s .item .kind ≡ 0 → ahead xs m c ≡ []
-  pub goes : (s .item .kind ≡ 0 → ⊥) → ahead xs m c ≡ s .item ∷ ahead xs m (s .next)
-  pub less : (s .item .kind ≡ 0 → ⊥) → far m (s .next) < far m c
-  pub valid : Valid xs (s .next)
-  -- entries to come lie in the block at hand, or there are none, or they lie in the block just met
-  pub held : EntriesIn (c .at) (2 * c .left) (s .next)
-      ⊎ ((s .next .left ≡ 0) ⊎ ((s .item .kind ≡ 1) × EntriesIn (s .item .at) (s .item .len) (s .next)))
-  pub small : s .item .at + s .item .len < 1099511627776

@@ -8,18 +8,19 @@ use native.Mathlib.Omega.{arith}
 use lib.Dec.{ltb, eqb}
 use borrow.Author.Tests.{ltb-false}
 use Rattle.facts.specs.Fact.{Fact, Holds}
-use Rattle.facts.specs.Rules.{by-cond, by-test}
+use Rattle.facts.specs.RulesLaws.{by-cond, by-test}
 use Rattle.words.specs.Le.{le}
 use Rattle.items.specs.declared.Item.{Item}
 use Rattle.items.specs.Items.{keep, word, skip, alien, broken, lost, each, inside}
 use Rattle.items.specs.ItemsLaws.{each-join}
-use Rattle.items.specs.Judged.{from, sized, solid}
+use Rattle.items.specs.Shapes.{from, sized, solid}
 use Rattle.inside_rows.specs.declared.Module.{Module}
 use Rattle.inside_modules.specs.Bounds.{Empty, Lies}
 use Rattle.inside_places.specs.Places.{found}
 use Rattle.inside_places.specs.PlacesLaws.{found-up}
 use Rattle.inside_blocks.specs.declared.Cursor.{Cursor}
-use Rattle.inside_blocks.specs.Blocks.{headItem, headsFrom, headCount, wordOf, itemOf, entriesFrom, blockFits, blocksFrom, items, ahead}
+use Rattle.inside_blocks.specs.Blocks.{headItem, headsFrom, headCount, wordOf, itemOf, entriesFrom, blockFits, blocksFrom, items}
+use Rattle.inside_blocks.specs.BlocksWalk.{ahead}
 use Rattle.inside_blocks.specs.BlocksLaws.{blockAt, sizeAt, entriesOf}
 
 -- P holds of whatever the module's blocks can give

@@ -1,5 +1,6 @@
 -- Which bytes the items of a module go by: its headers but for the image base, and its relocation blocks.
 -- Assumes nothing.
+use Rattle.inside_rows.specs.Rows.{badKind, peKind, teKind}
 use Prim.Native.Nat.{ℕ, zero, suc, _+_, _-_, _*_, _/_, _%_, _<_}
 use mathlib.Core.Bool.{Bool, true, false}
 use mathlib.Core.List.{List, [], _∷_, _++_}
@@ -8,18 +9,20 @@ use mathlib.Core.Path.{_≡_, refl, sym, _∙_}
 use native.Mathlib.Omega.{arith}
 use native.Mathlib.Decide.{decLt}
 use borrow.Author.Tests.{eq-eqb, ne-eqb}
-use Rattle.facts.specs.Fact.{Holds, Says, says, test}
+use Rattle.facts.specs.Fact.{Holds, Says, test}
+use Rattle.facts.specs.FactLaws.{says}
 use Rattle.words.specs.Le.{le, Alike}
 use Rattle.words.specs.LeLaws.{le-in, alike-in}
 use Rattle.items.specs.Items.{keep, broken}
-use Rattle.items.specs.Judged.{Kept}
+use Rattle.items.specs.Shapes.{Kept}
 use Rattle.items.specs.KeptLaws.{kept-left, kept-right}
 use Rattle.inside_rows.specs.declared.Module.{Module}
 use Rattle.inside_modules.specs.Bounds.{Empty, Lies}
 use Rattle.inside_modules.specs.Frame.{Seen}
 use Rattle.inside_places.specs.PlacesLaws.{found-cong}
 use Rattle.inside_blocks.specs.declared.Cursor.{Cursor}
-use Rattle.inside_blocks.specs.Blocks.{headItem, headsFrom, headCount, itemOf, entriesFrom, blockFits, blocksFrom, items, ahead}
+use Rattle.inside_blocks.specs.Blocks.{headItem, headsFrom, headCount, itemOf, entriesFrom, blockFits, blocksFrom, items}
+use Rattle.inside_blocks.specs.BlocksWalk.{ahead}
 use Rattle.inside_blocks.specs.BlocksLaws.{blockAt, sizeAt, entriesOf, blocks-none, blocks-end, blocks-broken, blocks-next}
 
 module _ (a b : List ℕ) (m : Module) (rows : Alike a b (m .table) (40 * m .rows)) where
@@ -93,17 +96,17 @@ module _ (a b : List ℕ) (m : Module) (rows : Alike a b (m .table) (40 * m .row
       )
 
 -- the header items have all bytes that the module is read from
-heads-seen : (a b : List ℕ) (m : Module) → (m .kind ≡ 0x10) ⊎ (m .kind ≡ 0x12) → Kept a b (headsFrom m (headCount m)) → Seen a b m
+heads-seen : (a b : List ℕ) (m : Module) → (m .kind ≡ peKind) ⊎ (m .kind ≡ teKind) → Kept a b (headsFrom m (headCount m)) → Seen a b m
 unfolding headsFrom headItem headCount Kept
 heads-seen a b m (inl k) kept =
-    let seen : Kept a b (headsFrom m 4) = rw (eq-eqb (m .kind) 0x10 k) at kept in
+    let seen : Kept a b (headsFrom m 4) = rw (eq-eqb (m .kind) peKind k) at kept in
     record { dos = λ e. seen .0 (λ z. omega arith); before = seen .1 .0 (λ z. omega arith); after = seen .1 .1 .1 .0 (λ z. omega arith) }
 heads-seen a b m (inr k) kept =
-    let seen : Kept a b (headsFrom m 3) = rw (ne-eqb (m .kind) 0x10 (λ e. omega arith), eq-eqb (m .kind) 0x12 k) at kept in
+    let seen : Kept a b (headsFrom m 3) = rw (ne-eqb (m .kind) peKind (λ e. omega arith), eq-eqb (m .kind) teKind k) at kept in
     record { dos = λ e. absurd (omega arith); before = seen .0 (λ z. omega arith); after = seen .1 .1 .0 (λ z. omega arith) }
 
 -- a module whose items are kept has its headers kept, where it isn't broken
-pub items-seen : (a b : List ℕ) (lo hi : ℕ) (m : Module) → Empty m ⊎ Lies lo hi m → (m .kind ≡ 25 → ⊥) → Kept a b (items a m) → Seen a b m
+pub items-seen : (a b : List ℕ) (lo hi : ℕ) (m : Module) → Empty m ⊎ Lies lo hi m → (m .kind ≡ badKind → ⊥) → Kept a b (items a m) → Seen a b m
 unfolding items
 items-seen a b lo hi m (inl (inl e)) ok kept =
     rw e

@@ -1,5 +1,6 @@
 -- The cursor goes through the items of a module.
 -- Assumes nothing.
+use Rattle.inside_rows.specs.Rows.{peKind, teKind}
 use Prim.Native.Nat.{ℕ, zero, suc, _+_, _-_, _*_, _/_, _%_, _≤_, _<_}
 use mathlib.Core.Bool.{Bool, true, false}
 use mathlib.Core.List.{List, [], _∷_, _++_}
@@ -8,18 +9,20 @@ use native.Mathlib.Omega.{arith}
 use native.Mathlib.Decide.{decLt}
 use borrow.Author.Tests.{lt-ltb, le-ltb}
 use lib.Dec.{ltb, eqb}
-use Rattle.facts.specs.Fact.{Holds, Says, says, test, passes, fails}
-use Rattle.facts.specs.Rules.{by-cond}
+use Rattle.facts.specs.Fact.{Holds, Says, test}
+use Rattle.facts.specs.FactLaws.{says, passes, fails}
+use Rattle.facts.specs.RulesLaws.{by-cond}
 use Rattle.words.specs.Le.{le}
 use Rattle.items.specs.declared.Item.{Item}
 use Rattle.items.specs.Items.{keep, broken}
 use Rattle.inside_rows.specs.declared.Module.{Module}
-use Rattle.inside_modules.specs.Modules.{Fits}
+use Rattle.inside_modules.specs.ModulesFit.{Fits}
 use Rattle.inside_places.specs.declared.Span.{Span}
 use Rattle.inside_places.specs.Places.{found}
 use Rattle.inside_blocks.specs.declared.Cursor.{Cursor}
-use Rattle.inside_blocks.specs.Blocks.{headItem, headsFrom, headCount, itemOf, entriesFrom, blockFits, blocksFrom, items, ahead, startOf}
-use Rattle.inside_blocks.specs.Blocks.{far, Valid}
+use Rattle.inside_blocks.specs.Blocks.{headItem, headsFrom, headCount, itemOf, entriesFrom, blockFits, blocksFrom, items}
+use Rattle.inside_blocks.specs.BlocksWalk.{ahead, startOf}
+use Rattle.inside_blocks.specs.BlocksWalk.{far, Valid}
 
 module _ (xs : List ℕ) (m : Module) where
   -- the block at u bytes of the directory
@@ -137,8 +140,8 @@ module _ (xs : List ℕ) (m : Module) where
 pub count-few : (m : Module) → headCount m ≤ 4
 unfolding headCount
 count-few m =
-    by-cond (λ (n : ℕ). n ≤ 4) (eqb (m .kind) 0x10) _ _ (λ e. omega arith)
-    (λ e. by-cond (λ (n : ℕ). n ≤ 4) (eqb (m .kind) 0x12) _ _ (λ f. omega arith) (λ f. omega arith))
+    by-cond (λ (n : ℕ). n ≤ 4) (eqb (m .kind) peKind) _ _ (λ e. omega arith)
+    (λ e. by-cond (λ (n : ℕ). n ≤ 4) (eqb (m .kind) teKind) _ _ (λ f. omega arith) (λ f. omega arith))
 
 pub start-valid : (xs : List ℕ) (m : Module) → Valid xs (startOf m)
 unfolding startOf

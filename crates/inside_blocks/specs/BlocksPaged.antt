@@ -7,9 +7,9 @@ use native.Mathlib.Omega.{arith}
 use native.Mathlib.Decide.{ℕ-discrete}
 use borrow.Author.Tests.{le-ltb, eq-eqb, ne-eqb, eqb-true}
 use lib.Dec.{eqb}
-use Rattle.facts.specs.Rules.{by-cond}
+use Rattle.facts.specs.RulesLaws.{by-cond}
 use Rattle.items.specs.declared.Item.{Item}
-use Rattle.items.specs.Items.{word}
+use Rattle.items.specs.Items.{word, wordKind}
 use Rattle.inside_rows.specs.declared.Module.{Module}
 use Rattle.inside_places.specs.Places.{found}
 use Rattle.inside_pages.specs.declared.Page.{Page}
@@ -37,10 +37,10 @@ moduleFrom kind lo hi pe base width table rows stripped dir size =
 
 -- an item that is no word
 abbrev Other : Item → Type 0
-Other x = x .kind ≡ 2 → ⊥
+Other x = x .kind ≡ wordKind → ⊥
 
 -- an entry that names no word is none
-pub item-none : (xs : List ℕ) (m : Module) (page e : ℕ) → widthOf e ≡ 0 → itemOf xs m page e .kind ≡ 2 → ⊥
+pub item-none : (xs : List ℕ) (m : Module) (page e : ℕ) → widthOf e ≡ 0 → itemOf xs m page e .kind ≡ wordKind → ⊥
 unfolding itemOf
 item-none xs m page e z =
     by-cond Other (eqb (e / 4096) 0) _ _ (λ a k. omega arith)

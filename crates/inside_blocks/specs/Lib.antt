@@ -1,4 +1,5 @@
 pub mod Blocks
+pub mod BlocksWalk
 pub mod BlocksLaws
 pub mod Examples
 pub mod BlocksEach

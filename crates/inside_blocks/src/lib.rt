@@ -8,9 +8,10 @@ ghost use Prim.Native.Nat.{_+_, _*_, _≤_, _<_};
 ghost use lib.ListN.{length};
 ghost use Rattle.facts.specs.Fact.{Tells};
 ghost use Rattle.words.specs.Le.{le};
-ghost use Rattle.inside_modules.specs.Modules.{Fits};
+ghost use Rattle.inside_modules.specs.ModulesFit.{Fits};
 ghost use Rattle.inside_pages.specs.Pages.{Paged};
-ghost use Rattle.inside_blocks.specs.Blocks.{headItem, headCount, wordOf, itemOf, blockFits, startOf, Valid, Stepped};
+ghost use Rattle.inside_blocks.specs.Blocks.{headItem, headCount, wordOf, itemOf, blockFits};
+ghost use Rattle.inside_blocks.specs.BlocksWalk.{startOf, Valid, Stepped};
 ghost use Rattle.inside_blocks.specs.BlocksPaged.{moduleFrom};
 
 // Where the walk stands in a module: headers to come, bytes of the directory that are used, the next entry, entries left in its block, and
@@ -35,21 +36,21 @@ fn head_item(m: Module, k: usize) -> Item
 {
     if k == 3 {
         return Item {
-            kind: 1,
+            kind: items::KEPT,
             at: m.lo,
             len: 64,
         };
     }
     if k == 2 {
         return Item {
-            kind: 1,
+            kind: items::KEPT,
             at: m.pe,
             len: m.base - m.pe,
         };
     }
     if k == 1 {
         return Item {
-            kind: 2,
+            kind: items::WORD,
             at: m.base,
             len: m.width,
         };
@@ -57,7 +58,7 @@ fn head_item(m: Module, k: usize) -> Item
     let from = m.base + m.width;
     let end = m.table + 40 * m.rows;
     Item {
-        kind: 1,
+        kind: items::KEPT,
         at: from,
         len: end - from,
     }
@@ -88,13 +89,13 @@ fn word_of(m: Module, s: Span, w: usize) -> Item
 {
     if m.hi < s.at + w {
         return Item {
-            kind: 6,
+            kind: items::LOST,
             at: 0,
             len: 0,
         };
     }
     Item {
-        kind: 2,
+        kind: items::WORD,
         at: s.at,
         len: w,
     }
@@ -108,7 +109,7 @@ fn item_of(image: &[u8], m: Module, page: usize, e: usize) -> Item
     let rva = page + e % 4096;
     if kind == 0 {
         return Item {
-            kind: 3,
+            kind: items::SKIPPED,
             at: 0,
             len: 0,
         };
@@ -120,7 +121,7 @@ fn item_of(image: &[u8], m: Module, page: usize, e: usize) -> Item
         return word_of(m, inside_places::find(image, m, rva, 8), 8);
     }
     Item {
-        kind: 4,
+        kind: items::ALIEN,
         at: 0,
         len: 0,
     }
@@ -180,7 +181,7 @@ pub fn entry_on(image: &[u8], m: Module, q: Page, at: usize) -> Item
     let o = e % 4096;
     if inside_runs::is_sure(q, o, w) {
         return Item {
-            kind: 2,
+            kind: items::WORD,
             at: q.at + o,
             len: w,
         };
@@ -251,7 +252,7 @@ fn block_step(image: &[u8], m: Module, c: Cursor) -> Turn
     if !block_fits(image, m, s) {
         return Turn {
             item: Item {
-                kind: 5,
+                kind: items::BROKEN,
                 at: s.at,
                 len: 8,
             },
@@ -267,7 +268,7 @@ fn block_step(image: &[u8], m: Module, c: Cursor) -> Turn
     let k = words::le32(image, s.at + 4);
     Turn {
         item: Item {
-            kind: 1,
+            kind: items::KEPT,
             at: s.at,
             len: k,
         },
@@ -284,10 +285,10 @@ fn block_step(image: &[u8], m: Module, c: Cursor) -> Turn
 fn head_count(m: Module) -> usize
     ensures { λ r. ⌜ r ≡ headCount m ⌝ }
 {
-    if m.kind == 0x10 {
+    if m.kind == inside_rows::PE32 {
         return 4;
     }
-    if m.kind == 0x12 {
+    if m.kind == inside_rows::TE {
         return 3;
     }
     0
@@ -322,7 +323,7 @@ pub fn step(image: &[u8], m: Module, c: Cursor) -> Turn
     }
     Turn {
         item: Item {
-            kind: 0,
+            kind: items::END,
             at: 0,
             len: 0,
         },

@@ -1,4 +1,5 @@
 pub mod Parts
+pub mod PartsWalk
 pub mod PartsLaws
 pub mod PartsEach
 pub mod PartsFrame

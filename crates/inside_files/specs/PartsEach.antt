@@ -9,12 +9,12 @@ use native.Mathlib.Omega.{arith}
 use borrow.Author.Tests.{ltb-true}
 use native.Mathlib.Decide.{decLt}
 use lib.Dec.{ltb}
-use Rattle.facts.specs.Rules.{by-cond, by-test}
+use Rattle.words.specs.Round.{round8, round4}
+use Rattle.facts.specs.RulesLaws.{by-cond, by-test}
 use Rattle.words.specs.Le.{le}
-use Rattle.volume.specs.Volume.{round8}
 use Rattle.inside_files.specs.declared.Part.{Part}
 use Rattle.inside_files.specs.declared.Place.{Place}
-use Rattle.inside_files.specs.Parts.{round4, free, fileFits, sectionFits}
+use Rattle.inside_files.specs.Parts.{free, fileFits, sectionFits, brokenPart, headerPart, sectionPart}
 use Rattle.inside_files.specs.Parts.{sectionsFrom, sectionsAt, filesFrom, ahead}
 use Rattle.inside_files.specs.PartsLaws.{sections-at, sections-end}
 
@@ -35,10 +35,10 @@ each-fork P (p ∷ l) k (h, t) = let (s, r) = each-fork P l k t in ((h, s), r)
 -- it starts at n or after; it is a header with some bytes, a section or broken; a header starts below w, a section ends by w
 pub record Met (n w : ℕ) (p : Part) : Type 0 where
   pub up : n ≤ p .at
-  pub kind : (p .kind ≡ 1) ⊎ ((p .kind ≡ 2) ⊎ (p .kind ≡ 5))
-  pub some : p .kind ≡ 1 → 1 ≤ p .len
-  pub under : p .kind ≡ 1 → p .at < w
-  pub within : p .kind ≡ 2 → p .at + p .len ≤ w
+  pub kind : (p .kind ≡ headerPart) ⊎ ((p .kind ≡ sectionPart) ⊎ (p .kind ≡ brokenPart))
+  pub some : p .kind ≡ headerPart → 1 ≤ p .len
+  pub under : p .kind ≡ headerPart → p .at < w
+  pub within : p .kind ≡ sectionPart → p .at + p .len ≤ w
 
 module _ (xs : List ℕ) (n w : ℕ) where
   sections-met : (end k p : ℕ) → n ≤ p → end ≤ w → Each (Met n w) (sectionsFrom xs end k p)

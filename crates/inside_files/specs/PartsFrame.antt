@@ -7,14 +7,16 @@ use mathlib.Core.Path.{_≡_, refl, sym, _∙_}
 use native.Mathlib.Omega.{arith}
 use native.Mathlib.Decide.{decLt}
 use lib.ListN.{getD}
-use Rattle.facts.specs.Fact.{Holds, Says, says, test}
+use Rattle.words.specs.Round.{round8, round4}
+use Rattle.facts.specs.Fact.{Holds, Says, test}
+use Rattle.facts.specs.FactLaws.{says}
 use Rattle.words.specs.Le.{le, Alike}
 use Rattle.words.specs.LeLaws.{le-in, alike-in}
-use Rattle.volume.specs.Volume.{round8, fileSum}
+use Rattle.volume.specs.Volume.{fileSum}
 use Rattle.volume.specs.VolumeLaws.{sum-bytes}
 use Rattle.inside_files.specs.declared.Part.{Part}
 use Rattle.inside_files.specs.declared.Place.{Place}
-use Rattle.inside_files.specs.Parts.{header, broken, section, round4, free, fileFits, sectionFits}
+use Rattle.inside_files.specs.Parts.{header, broken, section, free, fileFits, sectionFits, brokenPart, headerPart, sectionPart}
 use Rattle.inside_files.specs.Parts.{sectionsFrom, sectionsAt, filesFrom, firstAt, firstPlace, ahead}
 use Rattle.inside_files.specs.PartsLaws.{sections-none, sections-end, sections-broken, sections-next}
 use Rattle.inside_files.specs.PartsLaws.{endOf, sectionsOf, files-none, files-end, files-free, files-broken, files-next}
@@ -22,9 +24,9 @@ use Rattle.inside_files.specs.PartsEach.{Each, each-fork}
 
 -- it isn't broken, and a and b agree on the bytes of it that are looked at
 pub record Seen (a b : List ℕ) (p : Part) : Type 0 where
-  pub whole : p .kind ≡ 5 → ⊥
-  pub header : p .kind ≡ 1 → Alike a b (p .at) (p .len)
-  pub section : p .kind ≡ 2 → Alike a b (p .at) 4
+  pub whole : p .kind ≡ brokenPart → ⊥
+  pub header : p .kind ≡ headerPart → Alike a b (p .at) (p .len)
+  pub section : p .kind ≡ sectionPart → Alike a b (p .at) 4
 
 -- a number of one byte
 byte : (xs : List ℕ) (at : ℕ) → le 1 xs at ≡ getD xs at 0

@@ -7,13 +7,15 @@ use mathlib.Core.Path.{_≡_, refl, sym, ap, _∙_}
 use native.Mathlib.Omega.{arith}
 use native.Mathlib.Decide.{decLt}
 use borrow.Author.Tests.{lt-ltb, le-ltb}
-use Rattle.facts.specs.Fact.{Holds, Says, says, test, passes, fails}
-use Rattle.facts.specs.Rules.{by-test}
+use Rattle.words.specs.Round.{round8, round4}
+use Rattle.facts.specs.Fact.{Holds, Says, test}
+use Rattle.facts.specs.FactLaws.{says, passes, fails}
+use Rattle.facts.specs.RulesLaws.{by-test}
 use Rattle.words.specs.Le.{le}
 use Rattle.inside_files.specs.declared.Part.{Part}
 use Rattle.inside_files.specs.declared.Place.{Place}
-use Rattle.volume.specs.Volume.{round8}
-use Rattle.inside_files.specs.Parts.{header, broken, section, round4, firstAt, firstPlace, Valid, free, fileFits, passedOver, sectionFits}
+use Rattle.inside_files.specs.Parts.{header, broken, section, firstAt, firstPlace, free, fileFits, passedOver, sectionFits}
+use Rattle.inside_files.specs.PartsWalk.{Valid}
 use Rattle.inside_files.specs.Parts.{sectionsFrom, sectionsAt, filesFrom, ahead}
 
 -- ---- sections

@@ -2,8 +2,18 @@
 ghost use mathlib.Core.Path.{_≡_};
 ghost use Prim.Native.Nat.{ℕ, _+_, _*_, _≤_, _<_};
 ghost use lib.ListN.{length, getD};
+ghost use Rattle.words.specs.Round.{round4};
 ghost use Rattle.facts.specs.Fact.{Tells};
-ghost use Rattle.inside_files.specs.Parts.{round4, free, fileFits, sectionFits, sectionsAt, firstAt, firstPlace, lastTurn, Valid, Stepped};
+ghost use Rattle.inside_files.specs.Parts.{free, fileFits, sectionFits, sectionsAt, firstAt, firstPlace};
+ghost use Rattle.inside_files.specs.PartsWalk.{lastTurn, Valid, Stepped};
+
+pub const NO_PART: u32 = 0;
+
+pub const HEADER: u32 = 1;
+
+pub const SECTION: u32 = 2;
+
+pub const BROKEN: u32 = 5;
 
 // What the walk meets: 1 a file's header or the free end, 2 a section, 5 none where one should be; 0 the end.
 pub struct Part {
@@ -57,46 +67,6 @@ fn is_free(image: &[u8], v: usize, f: usize) -> bool
     true
 }
 
-fn file_fits(image: &[u8], v: usize, f: usize) -> bool
-    requires { ⌜ (v ≤ length (now image)) × (f ≤ 33554432) ⌝ }
-    ensures { λ r. ⌜ Tells r (fileFits (now (image .entry)) v f) ⌝ }
-{
-    if v < f + 24 {
-        return false;
-    }
-    if words::byte(image, f + 19) % 2 != 0 {
-        return false;
-    }
-    if volume_file::file_sum(image, f) % 256 != 0 {
-        return false;
-    }
-    let s = words::le24(image, f + 20);
-    if s < 24 {
-        return false;
-    }
-    if v < f + s {
-        return false;
-    }
-    true
-}
-
-fn section_fits(image: &[u8], end: usize, p: usize) -> bool
-    requires { ⌜ (end ≤ length (now image)) × (p ≤ 33554432) ⌝ }
-    ensures { λ r. ⌜ Tells r (sectionFits (now (image .entry)) end p) ⌝ }
-{
-    if end < p + 4 {
-        return false;
-    }
-    let size = words::le24(image, p);
-    if size < 4 {
-        return false;
-    }
-    if end < p + size {
-        return false;
-    }
-    true
-}
-
 // Where the sections of the file at f start.
 fn sections_at(image: &[u8], f: usize) -> usize
     requires { ⌜ f + 24 ≤ length (now image) ⌝ }
@@ -117,10 +87,10 @@ fn section_step(image: &[u8], v: usize, c: Place) -> Turn
     ensures { λ s. ⌜ Stepped (now (image .entry)) v c s ⌝ }
 {
     let p = c.at;
-    if !section_fits(image, c.end, p) {
+    if !volume_file::section_held(image, c.end, p, 4) {
         return Turn {
             part: Part {
-                kind: 5,
+                kind: BROKEN,
                 at: p,
                 len: 0,
                 sort: 0,
@@ -135,7 +105,7 @@ fn section_step(image: &[u8], v: usize, c: Place) -> Turn
     let size = words::le24(image, p);
     Turn {
         part: Part {
-            kind: 2,
+            kind: SECTION,
             at: p,
             len: size,
             sort: words::byte(image, p + 3),
@@ -175,14 +145,14 @@ fn file_step(image: &[u8], v: usize, c: Place) -> Turn
     if is_free(image, v, f) {
         return last(v, 1, f, v - f);
     }
-    if !file_fits(image, v, f) {
+    if !volume_file::file_held(image, v, f, 24) {
         return last(v, 5, f, 0);
     }
     let end = f + words::le24(image, f + 20);
     let at = sections_at(image, f);
     Turn {
         part: Part {
-            kind: 1,
+            kind: HEADER,
             at: f,
             len: 24,
             sort: 0,
@@ -244,7 +214,7 @@ pub fn step(image: &[u8], v: usize, c: Place) -> Turn
     }
     Turn {
         part: Part {
-            kind: 0,
+            kind: NO_PART,
             at: 0,
             len: 0,
             sort: 0,

@@ -6,7 +6,7 @@ use mathlib.Core.List.{List, [], _∷_, _++_}
 use mathlib.Core.Path.{_≡_}
 use Rattle.facts.specs.Fact.{Fact, _≤?_, _≡?_, deny, _or_, Holds, test, Tells}
 use Rattle.items.specs.declared.Item.{Item}
-use Rattle.items.specs.Items.{each}
+use Rattle.items.specs.Items.{each, wordKind}
 use Rattle.items.specs.Judged.{sound, placed, known}
 use Rattle.apart_front.specs.declared.Front.{Front}
 use Rattle.apart_front.specs.Fronts.{Fronts}
@@ -16,7 +16,7 @@ use Rattle.inside_judge.specs.declared.Judged.{Judged}
 
 -- a word ends by n
 abbrev pub endsBy : ℕ → Item → Fact
-endsBy n x = deny (x .kind ≡? 2) or x .at + x .len ≤? n
+endsBy n x = deny (x .kind ≡? wordKind) or x .at + x .len ≤? n
 
 -- r tells of rules 25, 26 (but for apartness) and 27 for the items of l; no word of l ends past its top; and its frontier is what `start`
 -- becomes as l is passed

@@ -7,16 +7,18 @@ use mathlib.Core.Logic.{_⊎_, inl, inr}
 use mathlib.Core.Path.{_≡_}
 use native.Mathlib.Omega.{arith}
 use native.Mathlib.Decide.{ℕ-discrete}
-use Rattle.facts.specs.Fact.{Fact, Holds, test, Says, says, Tells}
+use Rattle.facts.specs.Fact.{Fact, Holds, test, Says, Tells}
+use Rattle.facts.specs.FactLaws.{says}
 use Rattle.items.specs.declared.Item.{Item}
-use Rattle.items.specs.Items.{each}
+use Rattle.items.specs.Items.{each, endKind, wordKind}
 use Rattle.items.specs.ItemsLaws.{each-none, each-so, each-join, each-fork, each-more, each-last}
 use Rattle.items.specs.Judged.{sound, placed, known}
 use Rattle.apart_front.specs.declared.Front.{Front}
 use Rattle.apart_front.specs.FrontsLaws.{fronts-none, fronts-join}
 use Rattle.inside_walk.specs.declared.Spot.{Spot}
 use Rattle.inside_walk.specs.declared.Move.{Move}
-use Rattle.inside_walk.specs.Whole.{walked, Stepped}
+use Rattle.inside_walk.specs.Whole.{walked}
+use Rattle.inside_walk.specs.WholeWalk.{Stepped}
 use Rattle.inside_walk.specs.Walkable.{passing-end, passing-next}
 use Rattle.inside_walk.specs.Entries.{entriesOf, pastOf, passing-entries}
 use Rattle.inside_judge.specs.declared.Judged.{Judged}
@@ -30,8 +32,8 @@ tells-as {r} {p} {q} t f g = record { says = go r (t .says) }
     go true h = f h
     go false h = λ k. h (g k)
 
-pub ends-by : (x : Item) (n : ℕ) → (x .kind ≡ 2 → x .at + x .len ≤ n) → Holds (endsBy n x)
-ends-by x n f = elim (ℕ-discrete (x .kind) 2) [ yes e ↦ inr (f e) | no e ↦ inl e ]
+pub ends-by : (x : Item) (n : ℕ) → (x .kind ≡ wordKind → x .at + x .len ≤ n) → Holds (endsBy n x)
+ends-by x n f = elim (ℕ-discrete (x .kind) wordKind) [ yes e ↦ inr (f e) | no e ↦ inl e ]
 
 tells-none : (p : Fact) → Holds p → Tells true p
 tells-none p h = record { says = h }
@@ -78,10 +80,10 @@ judges-more start l E c z r x u j n =
 module _ (xs : List ℕ) (v f E c z : ℕ) (start : Front) (r : Judged) (s : Spot) (t : Move) (j : Judging xs v f E c z start r s)
     (step : Stepped xs v s t)
   where
-    pub judging-end : t .item .kind ≡ 0 → Judges start (walked xs v f) E c z r
+    pub judging-end : t .item .kind ≡ endKind → Judges start (walked xs v f) E c z r
     judging-end k = rw (passing-end xs v f (j .passed) s t (j .at) step k) (j .judges)
 
-    pub judging-next : (u : Judged) → (t .item .kind ≡ 0 → ⊥) → Noted E c z r (t .item) u → Judging xs v f E c z start u (t .next)
+    pub judging-next : (u : Judged) → (t .item .kind ≡ endKind → ⊥) → Noted E c z r (t .item) u → Judging xs v f E c z start u (t .next)
     judging-next u is n =
         record {
           passed = j .passed ++ (t .item ∷ []);

@@ -6,7 +6,8 @@ use mathlib.Core.List.{List, [], _∷_, _++_, append-assoc, append-nil}
 use mathlib.Core.Logic.{inl, inr}
 use mathlib.Core.Path.{_≡_, refl, sym, ap, _∙_}
 use native.Mathlib.Omega.{arith}
-use Rattle.facts.specs.Fact.{Fact, Holds, test, passes}
+use Rattle.facts.specs.Fact.{Fact, Holds, test}
+use Rattle.facts.specs.FactLaws.{passes}
 use Rattle.words.specs.Le.{le}
 use Rattle.items.specs.declared.Item.{Item}
 use Rattle.items.specs.Items.{word, each, apart, apartFrom}

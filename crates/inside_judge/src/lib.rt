@@ -11,7 +11,7 @@ ghost use lib.ListN.{length};
 ghost use Rattle.facts.specs.Fact.{Holds, Tells};
 ghost use Rattle.apart_front.specs.Fronts.{Fronts};
 ghost use Rattle.items.specs.Judged.{off, sound, placed, known};
-ghost use Rattle.inside_modules.specs.Modules.{Fits};
+ghost use Rattle.inside_modules.specs.ModulesFit.{Fits};
 ghost use Rattle.inside_blocks.specs.Blocks.{entriesFrom};
 ghost use Rattle.inside_pages.specs.Pages.{Paged};
 ghost use Rattle.inside_walk.specs.Whole.{walked};
@@ -47,10 +47,10 @@ fn is_sound(x: Item, c: usize, z: usize) -> bool
     requires { ⌜ (x .at + x .len < 1099511627776) × (c < 4294967296) × (z < 4294967296) ⌝ }
     ensures { λ r. ⌜ Tells r (sound c z x) ⌝ }
 {
-    if x.kind == 5 {
+    if x.kind == items::BROKEN {
         return false;
     }
-    if x.kind != 1 {
+    if x.kind != items::KEPT {
         return true;
     }
     is_off(x, c, z)
@@ -61,10 +61,10 @@ fn is_placed(x: Item, E: usize, c: usize, z: usize) -> bool
     requires { ⌜ (x .at + x .len < 1099511627776) × (c < 4294967296) × (z < 4294967296) ⌝ }
     ensures { λ r. ⌜ Tells r (placed E c z x) ⌝ }
 {
-    if x.kind == 6 {
+    if x.kind == items::LOST {
         return false;
     }
-    if x.kind != 2 {
+    if x.kind != items::WORD {
         return true;
     }
     if x.at < E {
@@ -77,7 +77,7 @@ fn is_placed(x: Item, E: usize, c: usize, z: usize) -> bool
 fn is_known(x: Item) -> bool
     ensures { λ r. ⌜ Tells r (known x) ⌝ }
 {
-    if x.kind == 4 {
+    if x.kind == items::ALIEN {
         return false;
     }
     true
@@ -97,7 +97,7 @@ fn highest(top: usize, x: Item) -> usize
     requires { ⌜ x .at + x .len < 1099511627776 ⌝ }
     ensures { λ r. ⌜ (top ≤ r) × ((x .kind ≡ 2) → x .at + x .len ≤ r) ⌝ }
 {
-    if x.kind != 2 {
+    if x.kind != items::WORD {
         return top;
     }
     if x.at + x.len <= top {
@@ -302,7 +302,7 @@ pub fn judge(image: &[u8], v: usize, f: usize, E: usize, c: usize, z: usize, fro
     loop {
         let t = inside_walk::step(image, v, s);
         let x = t.item;
-        if x.kind == 0 {
+        if x.kind == items::END {
             return r;
         }
         let next = t.next;

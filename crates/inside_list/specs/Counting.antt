@@ -1,5 +1,6 @@
 -- What the counting walk keeps.
 -- Assumes nothing.
+use Rattle.inside_files.specs.Parts.{noPart}
 use Prim.Native.Nat.{ℕ, suc, _+_, _*_, _/_, _≤_, _<_}
 use mathlib.Core.Bool.{cond}
 use mathlib.Core.List.{List, [], _∷_, _++_, append-assoc, append-nil}
@@ -7,25 +8,28 @@ use mathlib.Core.Path.{_≡_, refl, sym, ap, _∙_}
 use native.Mathlib.Omega.{arith}
 use lib.Dec.{eqb, ltb}
 use lib.ListN.{length, length-append}
-use Rattle.facts.specs.Fact.{Holds, test, passes, fails}
-use Rattle.facts.specs.Rules.{by-cond, by-test}
+use Rattle.facts.specs.Fact.{Holds, test}
+use Rattle.facts.specs.FactLaws.{passes, fails}
+use Rattle.facts.specs.RulesLaws.{by-cond, by-test}
 use Rattle.words.specs.Le.{Bytes}
 use Rattle.items.specs.declared.Item.{Item}
-use Rattle.items.specs.Items.{each, inside, wordsIn}
+use Rattle.items.specs.Items.{each, inside, wordsIn, endKind, wordKind}
 use Rattle.items.specs.Listed.{words-join}
 use Rattle.inside_files.specs.declared.Part.{Part}
 use Rattle.inside_files.specs.declared.Place.{Place}
 use Rattle.inside_files.specs.declared.Turn.{Turn}
 use Rattle.inside_files.specs.Parts as files
+use Rattle.inside_files.specs.PartsWalk as filesWalk
 use Rattle.inside_files.specs.PartsLaws.{first-valid}
 use Rattle.inside_files.specs.PartsEach.{Each, Met, ahead-met}
 use Rattle.inside_rows.specs.declared.Module.{Module}
 use Rattle.inside_blocks.specs.declared.Cursor.{Cursor}
 use Rattle.inside_blocks.specs.declared.Turn as blocks-turn
-use Rattle.inside_blocks.specs.Blocks.{items, startOf}
-use Rattle.inside_blocks.specs.Blocks as blocks
+use Rattle.inside_blocks.specs.Blocks.{items}
+use Rattle.inside_blocks.specs.BlocksWalk.{startOf}
+use Rattle.inside_blocks.specs.BlocksWalk as blocksWalk
 use Rattle.inside_blocks.specs.BlocksLaws.{ahead-start, start-valid}
-use Rattle.inside_modules.specs.Modules.{Fits}
+use Rattle.inside_modules.specs.ModulesFit.{Fits}
 use Rattle.inside_walk.specs.Whole.{moduleIn}
 use Rattle.inside_walk.specs.WholeLaws.{module-in-fits}
 use Rattle.inside_walk.specs.Walkable.{Walkable}
@@ -40,22 +44,22 @@ use Rattle.inside_list.specs.Few.{inventory-few, words-few}
 
 -- n words are counted, and c comes next
 pub record CountingWords (xs : List ℕ) (m : Module) (n : ℕ) (c : Cursor) : Type 0 where
-  pub valid : blocks.Valid xs c
-  pub all : n + length (wordsIn (blocks.ahead xs m c)) ≡ length (wordsIn (items xs m))
+  pub valid : blocksWalk.Valid xs c
+  pub all : n + length (wordsIn (blocksWalk.ahead xs m c)) ≡ length (wordsIn (items xs m))
 
 module _ (xs : List ℕ) (m : Module) where
   pub words-first : (c : Cursor) → c ≡ startOf m → CountingWords xs m 0 c
   words-first c e = rw e (record { valid = start-valid xs m; all = rw (ahead-start xs m) (omega arith) })
 
-  module _ (n : ℕ) (c : Cursor) (t : blocks-turn.Turn) (g : CountingWords xs m n c) (step : blocks.Stepped xs m c t) where
-    pub words-end : t .item .kind ≡ 0 → n ≡ length (wordsIn (items xs m))
+  module _ (n : ℕ) (c : Cursor) (t : blocks-turn.Turn) (g : CountingWords xs m n c) (step : blocksWalk.Stepped xs m c t) where
+    pub words-end : t .item .kind ≡ endKind → n ≡ length (wordsIn (items xs m))
     unfolding wordsIn
     words-end z = let e : n + 0 ≡ length (wordsIn (items xs m)) = rw (step .ends z) at (g .all) in omega arith
 
-    pub words-next : (t .item .kind ≡ 0 → ⊥) → (k : ℕ) → k ≡ n + length (wordsIn (t .item ∷ [])) → CountingWords xs m k (t .next)
+    pub words-next : (t .item .kind ≡ endKind → ⊥) → (k : ℕ) → k ≡ n + length (wordsIn (t .item ∷ [])) → CountingWords xs m k (t .next)
     words-next is k e =
         let x = t .item in
-        let l = blocks.ahead xs m (t .next) in
+        let l = blocksWalk.ahead xs m (t .next) in
         let before : n + length (wordsIn (x ∷ l)) ≡ length (wordsIn (items xs m)) = rw (step .goes is) at (g .all) in
         let split = ap length (words-join (x ∷ []) l) ∙ length-append (wordsIn (x ∷ [])) (wordsIn l) in
         record { valid = step .valid; all = omega (arith, split) }
@@ -119,7 +123,7 @@ words-other : (c : ℕ) (l : List Item) → 3 ≤ c → placesOf 2 (wordEntries 
 unfolding wordEntries
 words-other c [] low = unfold placesOf in refl
 words-other c (x ∷ l) low =
-    by-cond (λ (k : List ℕ). placesOf 2 k ≡ []) (eqb (x .kind) 2) _ _
+    by-cond (λ (k : List ℕ). placesOf 2 k ≡ []) (eqb (x .kind) wordKind) _ _
     (λ e. places-same (entry (c + x .len / 8) (x .at)) (wordEntries 5 l) 2 (λ z. omega arith) ∙ words-other 5 l (omega arith))
     (λ e. words-other c l low)
 
@@ -193,8 +197,8 @@ module _ (xs : List ℕ) (m : Module) (n : Counts) where
 -- ---- the walk
 
 -- what a walk knows of the part that it meets
-pub step-known : (xs : List ℕ) (v : ℕ) (c : Place) (t : Turn) → v ≤ length xs → length xs ≤ 16777216 → files.Valid v c
-    → files.Stepped xs v c t → (t .part .kind ≡ 0 → ⊥) → Known xs (t .part)
+pub step-known : (xs : List ℕ) (v : ℕ) (c : Place) (t : Turn) → v ≤ length xs → length xs ≤ 16777216 → filesWalk.Valid v c
+    → filesWalk.Stepped xs v c t → (t .part .kind ≡ noPart → ⊥) → Known xs (t .part)
 unfolding Each
 step-known xs v c t within small valid step is =
     let met = ahead-met xs 0 (length xs) v c (λ l. omega arith) (omega arith) (omega (arith, valid .within)) within in
@@ -202,12 +206,12 @@ step-known xs v c t within small valid step is =
     met-known xs (length xs) (t .part) small (all .0)
 
 pub step-fits : (xs : List ℕ) (v : ℕ) (c : Place) (t : Turn) → Bytes xs → v ≤ length xs → length xs ≤ 16777216
-    → files.Stepped xs v c t → Fits xs (moduleIn xs (t .part))
+    → filesWalk.Stepped xs v c t → Fits xs (moduleIn xs (t .part))
 step-fits xs v c t bytes within small step = module-in-fits xs (t .part) bytes small (λ k. omega (arith, step .inside k .1))
 
 -- the parts before c are counted
 pub record Counting (xs : List ℕ) (v f : ℕ) (n : Counts) (c : Place) : Type 0 where
-  pub valid : files.Valid v c
+  pub valid : filesWalk.Valid v c
   -- the file at hand, and the entries that are counted
   pub file : ℕ
   pub small : file < 16777216
@@ -215,7 +219,7 @@ pub record Counting (xs : List ℕ) (v f : ℕ) (n : Counts) (c : Place) : Type 
   pub all : inventory xs v f ≡ passed ++ entriesOf xs file (files.ahead xs v c)
   pub counts : n ≡ countsOf passed
 
-pub place-valid : (xs : List ℕ) (v f : ℕ) → Walkable xs v f → files.Valid v (files.firstPlace xs f)
+pub place-valid : (xs : List ℕ) (v f : ℕ) → Walkable xs v f → filesWalk.Valid v (files.firstPlace xs f)
 place-valid xs v f w = first-valid xs v f (omega (arith, w .within, w .small)) (w .ends) (w .low) (w .section)
 
 module _ (xs : List ℕ) (v f : ℕ) (w : Walkable xs v f) where
@@ -241,14 +245,14 @@ module _ (xs : List ℕ) (v f : ℕ) (w : Walkable xs v f) where
         rw (g .counts)
         (record { modules = omega (arith, places-less 2 l); words = omega (arith, from-less l); entries = h })
 
-    module _ (t : Turn) (step : files.Stepped xs v c t) where
-      pub counting-end : t .part .kind ≡ 0 → n ≡ countsOf (inventory xs v f)
+    module _ (t : Turn) (step : filesWalk.Stepped xs v c t) where
+      pub counting-end : t .part .kind ≡ noPart → n ≡ countsOf (inventory xs v f)
       unfolding entriesOf
       counting-end z =
           let e : inventory xs v f ≡ g .passed = g .all ∙ rw (step .ends z) (append-nil (g .passed)) in
           rw e (g .counts)
 
-      pub counting-next : (t .part .kind ≡ 0 → ⊥) → (u : Counts) → u ≡ plus n (countsFor xs (moduleIn xs (t .part)))
+      pub counting-next : (t .part .kind ≡ noPart → ⊥) → (u : Counts) → u ≡ plus n (countsFor xs (moduleIn xs (t .part)))
           → Counting xs v f u (t .next)
       unfolding entriesOf
       counting-next is u e =

@@ -9,20 +9,21 @@ use native.Mathlib.Decide.{ℕ-discrete, decLt}
 use borrow.Author.Tests.{eq-eqb, ne-eqb, ltb-true}
 use lib.Dec.{ltb, eqb}
 use lib.ListN.{length, length-append}
-use Rattle.facts.specs.Fact.{Holds, Says, says, test}
-use Rattle.facts.specs.Rules.{by-cond, by-test}
+use Rattle.words.specs.Round.{round8, round4}
+use Rattle.facts.specs.Fact.{Holds, Says, test}
+use Rattle.facts.specs.FactLaws.{says}
+use Rattle.facts.specs.RulesLaws.{by-cond, by-test}
 use Rattle.words.specs.Le.{le, Bytes}
-use Rattle.volume.specs.Volume.{round8}
 use Rattle.items.specs.declared.Item.{Item}
-use Rattle.items.specs.Items.{wordsIn}
+use Rattle.items.specs.Items.{wordsIn, wordKind}
 use Rattle.inside_files.specs.declared.Part.{Part}
 use Rattle.inside_files.specs.declared.Place.{Place}
-use Rattle.inside_files.specs.Parts.{round4, free, fileFits, sectionFits, sectionsFrom, sectionsAt, filesFrom, parts, firstPlace}
+use Rattle.inside_files.specs.Parts.{free, fileFits, sectionFits, sectionsFrom, sectionsAt, filesFrom, parts, firstPlace}
 use Rattle.inside_files.specs.Parts as files
 use Rattle.inside_files.specs.PartsLaws.{sections-at, files-end}
 use Rattle.inside_files.specs.PartsEach.{Each, Met}
 use Rattle.inside_rows.specs.declared.Module.{Module}
-use Rattle.inside_modules.specs.Modules.{Fits}
+use Rattle.inside_modules.specs.ModulesFit.{Fits}
 use Rattle.inside_blocks.specs.Blocks.{headsFrom, headCount, entriesFrom, blockFits, blocksFrom, items}
 use Rattle.inside_blocks.specs.BlocksLaws.{blockAt, sizeAt, entriesOf, blocks-end, count-few}
 use Rattle.inside_walk.specs.Whole.{moduleIn}
@@ -78,7 +79,7 @@ words-less : (l : List Item) → length (wordsIn l) ≤ length l
 unfolding wordsIn
 words-less [] = omega arith
 words-less (x ∷ l) =
-    by-cond (λ (k : List Item). length k ≤ suc (length l)) (eqb (x .kind) 2) _ _
+    by-cond (λ (k : List Item). length k ≤ suc (length l)) (eqb (x .kind) wordKind) _ _
     (λ e. omega (arith, words-less l)) (λ e. omega (arith, words-less l))
 
 pub words-few : (xs : List ℕ) (m : Module) → Fits xs m → length (wordsIn (items xs m)) < 8589934592

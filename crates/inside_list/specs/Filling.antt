@@ -1,5 +1,6 @@
 -- What the listing walk keeps.
 -- Assumes nothing.
+use Rattle.inside_files.specs.Parts.{headerPart, noPart}
 use Prim.Native.Nat.{ℕ, suc, _+_, _*_, _/_, _≤_}
 use mathlib.Core.List.{List, [], _∷_, _++_}
 use mathlib.Core.Path.{_≡_, refl, sym, ap, _∙_}
@@ -7,20 +8,22 @@ use native.Mathlib.Omega.{arith}
 use lib.Dec.{eqb}
 use lib.ListN.{length, length-append}
 use Rattle.facts.specs.Fact.{Holds}
-use Rattle.facts.specs.Rules.{by-cond}
+use Rattle.facts.specs.RulesLaws.{by-cond}
 use Rattle.words.specs.Put.{put, putAll}
 use Rattle.words.specs.PutLaws.{length-put, length-putAll}
 use Rattle.items.specs.declared.Item.{Item}
-use Rattle.items.specs.Items.{each, inside}
+use Rattle.items.specs.Items.{each, inside, endKind, wordKind}
 use Rattle.inside_files.specs.declared.Part.{Part}
 use Rattle.inside_files.specs.declared.Place.{Place}
 use Rattle.inside_files.specs.declared.Turn.{Turn}
 use Rattle.inside_files.specs.Parts as files
+use Rattle.inside_files.specs.PartsWalk as filesWalk
 use Rattle.inside_rows.specs.declared.Module.{Module}
 use Rattle.inside_blocks.specs.declared.Cursor.{Cursor}
 use Rattle.inside_blocks.specs.declared.Turn as blocks-turn
-use Rattle.inside_blocks.specs.Blocks.{items, startOf}
-use Rattle.inside_blocks.specs.Blocks as blocks
+use Rattle.inside_blocks.specs.Blocks.{items}
+use Rattle.inside_blocks.specs.BlocksWalk.{startOf}
+use Rattle.inside_blocks.specs.BlocksWalk as blocksWalk
 use Rattle.inside_blocks.specs.BlocksLaws.{ahead-start, start-valid}
 use Rattle.inside_walk.specs.Whole.{moduleIn}
 use Rattle.inside_walk.specs.Walkable.{Walkable}
@@ -45,7 +48,7 @@ pub record Filled (l k : List ℕ) (n : Next) (x : Item) (u : Next) : Type 0 whe
   pub room : (rest : List Item) → u .at + length (wordEntries (u .code) rest) ≡ n .at + length (wordEntries (n .code) (x ∷ rest))
   pub kept : (rest : List Item) → putAll 4 k (4 * u .at) (wordEntries (u .code) rest) ≡ putAll 4 l (4 * n .at) (wordEntries (n .code) (x ∷ rest))
 
-pub filled-word : (l : List ℕ) (n : Next) (x : Item) → x .kind ≡ 2
+pub filled-word : (l : List ℕ) (n : Next) (x : Item) → x .kind ≡ wordKind
     → Filled l (put 4 l (4 * n .at) (entry (n .code + x .len / 8) (x .at))) n x (record { at = n .at + 1; code = 5 })
 unfolding putAll
 filled-word l n x k =
@@ -57,18 +60,18 @@ filled-word l n x k =
       kept = λ rest. rw (word-more (n .code) x rest k, e);
     }
 
-pub filled-other : (l : List ℕ) (n : Next) (x : Item) → n .code ≤ 5 → (x .kind ≡ 2 → ⊥) → Filled l l n x n
+pub filled-other : (l : List ℕ) (n : Next) (x : Item) → n .code ≤ 5 → (x .kind ≡ wordKind → ⊥) → Filled l l n x n
 filled-other l n x code k =
     record { code = code; long = refl; room = λ rest. rw (word-same (n .code) x rest k); kept = λ rest. rw (word-same (n .code) x rest k) }
 
 -- l₀ became l, n comes next in it, and c in the module
 pub record FillingWords (xs : List ℕ) (m : Module) (l₀ : List ℕ) (i : ℕ) (l : List ℕ) (n : Next) (c : Cursor) : Type 0 where
-  pub valid : blocks.Valid xs c
+  pub valid : blocksWalk.Valid xs c
   pub code : n .code ≤ 5
-  pub within : Holds (each (inside 16777216) (blocks.ahead xs m c))
+  pub within : Holds (each (inside 16777216) (blocksWalk.ahead xs m c))
   pub long : length l ≡ length l₀
-  pub room : n .at + length (wordEntries (n .code) (blocks.ahead xs m c)) ≡ i + length (wordEntries 3 (items xs m))
-  pub kept : putAll 4 l (4 * n .at) (wordEntries (n .code) (blocks.ahead xs m c)) ≡ putAll 4 l₀ (4 * i) (wordEntries 3 (items xs m))
+  pub room : n .at + length (wordEntries (n .code) (blocksWalk.ahead xs m c)) ≡ i + length (wordEntries 3 (items xs m))
+  pub kept : putAll 4 l (4 * n .at) (wordEntries (n .code) (blocksWalk.ahead xs m c)) ≡ putAll 4 l₀ (4 * i) (wordEntries 3 (items xs m))
 
 module _ (xs : List ℕ) (m : Module) (l₀ : List ℕ) (i : ℕ) where
   pub filling-start : (c : Cursor) → c ≡ startOf m → Holds (each (inside 16777216) (items xs m))
@@ -84,33 +87,33 @@ module _ (xs : List ℕ) (m : Module) (l₀ : List ℕ) (i : ℕ) where
         kept = rw (ahead-start xs m);
       })
 
-  module _ (l : List ℕ) (n : Next) (c : Cursor) (t : blocks-turn.Turn) (g : FillingWords xs m l₀ i l n c) (step : blocks.Stepped xs m c t)
+  module _ (l : List ℕ) (n : Next) (c : Cursor) (t : blocks-turn.Turn) (g : FillingWords xs m l₀ i l n c) (step : blocksWalk.Stepped xs m c t)
     where
-      pub filling-done : t .item .kind ≡ 0
+      pub filling-done : t .item .kind ≡ endKind
           → (n .at ≡ i + length (wordEntries 3 (items xs m))) × (l ≡ putAll 4 l₀ (4 * i) (wordEntries 3 (items xs m)))
       unfolding wordEntries putAll
       filling-done z =
           let r : n .at + 0 ≡ i + length (wordEntries 3 (items xs m)) = rw (step .ends z) at (g .room) in
           (omega arith, rw (step .ends z) at (g .kept))
 
-      module _ (is : t .item .kind ≡ 0 → ⊥) where
+      module _ (is : t .item .kind ≡ endKind → ⊥) where
         pub word-inside : Holds (inside 16777216 (t .item))
         unfolding each
         word-inside =
-            let h : Holds (each (inside 16777216) (t .item ∷ blocks.ahead xs m (t .next))) = rw (step .goes is) at (g .within) in h .0
+            let h : Holds (each (inside 16777216) (t .item ∷ blocksWalk.ahead xs m (t .next))) = rw (step .goes is) at (g .within) in h .0
 
         -- a word has its place in the list
-        pub word-room : 4 * (i + length (wordEntries 3 (items xs m))) ≤ length l₀ → t .item .kind ≡ 2 → 4 * (n .at + 1) ≤ length l
+        pub word-room : 4 * (i + length (wordEntries 3 (items xs m))) ≤ length l₀ → t .item .kind ≡ wordKind → 4 * (n .at + 1) ≤ length l
         word-room fits k =
-            let e = ap length (word-more (n .code) (t .item) (blocks.ahead xs m (t .next)) k) in
-            let r : n .at + length (wordEntries (n .code) (t .item ∷ blocks.ahead xs m (t .next))) ≡ i + length (wordEntries 3 (items xs m))
+            let e = ap length (word-more (n .code) (t .item) (blocksWalk.ahead xs m (t .next)) k) in
+            let r : n .at + length (wordEntries (n .code) (t .item ∷ blocksWalk.ahead xs m (t .next))) ≡ i + length (wordEntries 3 (items xs m))
             = rw (step .goes is) at (g .room) in
             omega (arith, g .long)
 
         pub filling-on : (k : List ℕ) (u : Next) → Filled l k n (t .item) u → FillingWords xs m l₀ i k u (t .next)
         unfolding each
         filling-on k u f =
-            let rest = blocks.ahead xs m (t .next) in
+            let rest = blocksWalk.ahead xs m (t .next) in
             let h : Holds (each (inside 16777216) (t .item ∷ rest)) = rw (step .goes is) at (g .within) in
             record {
               valid = step .valid;
@@ -145,7 +148,7 @@ module _ (xs : List ℕ) (l : List ℕ) (i file at : ℕ) (m : Module) where
 
 -- l₀ became l, written from entry k on; i comes next in it, and c in the volume
 pub record Filling (xs : List ℕ) (v f : ℕ) (l₀ : List ℕ) (k : ℕ) (l : List ℕ) (file i : ℕ) (c : Place) : Type 0 where
-  pub valid : files.Valid v c
+  pub valid : filesWalk.Valid v c
   pub small : file ≤ 33554432
   pub long : length l ≡ length l₀
   pub room : i + length (entriesOf xs file (files.ahead xs v c)) ≡ k + length (inventory xs v f)
@@ -153,7 +156,7 @@ pub record Filling (xs : List ℕ) (v f : ℕ) (l₀ : List ℕ) (k : ℕ) (l : 
 
 pub of-small : (file : ℕ) (p : Part) → file ≤ 33554432 → p .at + p .len ≤ 33554432 → fileOf file p ≤ 33554432
 unfolding fileOf
-of-small file p a b = by-cond (λ (n : ℕ). n ≤ 33554432) (eqb (p .kind) 1) _ _ (λ e. omega arith) (λ e. a)
+of-small file p a b = by-cond (λ (n : ℕ). n ≤ 33554432) (eqb (p .kind) headerPart) _ _ (λ e. omega arith) (λ e. a)
 
 module _ (xs : List ℕ) (v f : ℕ) (l₀ : List ℕ) (k : ℕ) where
   pub filling-first : (c : Place) → Walkable xs v f → c ≡ files.firstPlace xs f → Filling xs v f l₀ k l₀ f k c
@@ -168,12 +171,12 @@ module _ (xs : List ℕ) (v f : ℕ) (l₀ : List ℕ) (k : ℕ) where
         kept = refl;
       })
 
-  module _ (l : List ℕ) (file i : ℕ) (c : Place) (t : Turn) (g : Filling xs v f l₀ k l file i c) (step : files.Stepped xs v c t) where
-    pub filling-end : t .part .kind ≡ 0 → l ≡ putAll 4 l₀ (4 * k) (inventory xs v f)
+  module _ (l : List ℕ) (file i : ℕ) (c : Place) (t : Turn) (g : Filling xs v f l₀ k l file i c) (step : filesWalk.Stepped xs v c t) where
+    pub filling-end : t .part .kind ≡ noPart → l ≡ putAll 4 l₀ (4 * k) (inventory xs v f)
     unfolding entriesOf putAll
     filling-end z = rw (step .ends z) at (g .kept)
 
-    module _ (is : t .part .kind ≡ 0 → ⊥) where
+    module _ (is : t .part .kind ≡ noPart → ⊥) where
       abbrev pub here : List ℕ
       here = moduleEntries xs (fileOf file (t .part)) (t .part .at) (moduleIn xs (t .part))
 

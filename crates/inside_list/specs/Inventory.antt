@@ -1,5 +1,6 @@
 -- Request #107: what the first volume holds, as a list of numbers: each module with its file and its words, in the order of the walk.
 -- Assumes nothing.
+use Rattle.inside_rows.specs.Rows.{peKind, teKind}
 use Prim.Native.Nat.{ℕ, _+_, _*_, _/_, _%_}
 use mathlib.Core.Bool.{cond}
 use mathlib.Core.List.{List, [], _∷_, _++_}
@@ -7,9 +8,9 @@ use lib.Dec.{eqb, ltb}
 use lib.ListN.{length}
 use Rattle.facts.specs.Fact.{Fact, _≡?_, _or_, test}
 use Rattle.items.specs.declared.Item.{Item}
-use Rattle.items.specs.Items.{word}
+use Rattle.items.specs.Items.{word, wordKind}
 use Rattle.inside_files.specs.declared.Part.{Part}
-use Rattle.inside_files.specs.Parts.{parts}
+use Rattle.inside_files.specs.Parts.{parts, headerPart}
 use Rattle.inside_rows.specs.declared.Module.{Module}
 use Rattle.inside_blocks.specs.Blocks.{items}
 use Rattle.inside_walk.specs.Whole.{moduleIn}
@@ -23,11 +24,11 @@ entry code at = at + 16777216 * code
 -- the words among a module's items, the first of which is its image base: c is 3 up to that, then 5
 unfoldable pub wordEntries : ℕ → List Item → List ℕ
 wordEntries c [] = []
-wordEntries c (x ∷ l) = cond (eqb (x .kind) 2) (entry (c + x .len / 8) (x .at) ∷ wordEntries 5 l) (wordEntries c l)
+wordEntries c (x ∷ l) = cond (eqb (x .kind) wordKind) (entry (c + x .len / 8) (x .at) ∷ wordEntries 5 l) (wordEntries c l)
 
 -- a PE32 or TE module
 abbrev pub isModule : Module → Fact
-isModule m = m .kind ≡? 0x10 or m .kind ≡? 0x12
+isModule m = m .kind ≡? peKind or m .kind ≡? teKind
 
 -- the module m of the section at `at` of this file, if it is one: the file, the section, the words
 unfoldable pub moduleEntries : List ℕ → ℕ → ℕ → Module → List ℕ
@@ -35,7 +36,7 @@ moduleEntries xs file at m = cond (test (isModule m)) (entry 1 file ∷ entry 2 
 
 -- the file at hand once p is met: p, if it is a file's header
 unfoldable pub fileOf : ℕ → Part → ℕ
-fileOf file p = cond (eqb (p .kind) 1) (p .at) file
+fileOf file p = cond (eqb (p .kind) headerPart) (p .at) file
 
 -- the modules of a list of parts, which go on in this file
 unfoldable pub entriesOf : List ℕ → ℕ → List Part → List ℕ

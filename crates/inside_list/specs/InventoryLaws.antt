@@ -1,5 +1,6 @@
 -- The words of the list are the words of the walk.
 -- Assumes nothing.
+use Rattle.inside_rows.specs.Rows.{badKind, peKind, teKind}
 use Prim.Native.Nat.{ℕ, _+_, _/_, _≤_, _<_}
 use mathlib.Core.Bool.{Bool, true, false}
 use mathlib.Core.List.{List, [], _∷_, _++_}
@@ -10,13 +11,14 @@ use native.Mathlib.Decide.{ℕ-discrete, decLt}
 use borrow.Author.Tests.{eq-eqb, ne-eqb, eqb-true, eqb-false, lt-ltb, le-ltb}
 use lib.Dec.{eqb}
 use lib.ListN.{length}
-use Rattle.facts.specs.Fact.{_≡?_, _or_, Holds, Says, says, test, passes, fails}
-use Rattle.facts.specs.Rules.{by-cond}
+use Rattle.facts.specs.Fact.{_≡?_, _or_, Holds, Says, test}
+use Rattle.facts.specs.FactLaws.{says, passes, fails}
+use Rattle.facts.specs.RulesLaws.{by-cond}
 use Rattle.items.specs.declared.Item.{Item}
-use Rattle.items.specs.Items.{word, each, inside, wordsIn}
+use Rattle.items.specs.Items.{word, each, inside, wordsIn, wordKind}
 use Rattle.items.specs.Listed.{words-same, words-join}
 use Rattle.inside_files.specs.declared.Part.{Part}
-use Rattle.inside_files.specs.Parts.{parts, firstPlace}
+use Rattle.inside_files.specs.Parts.{parts, firstPlace, headerPart, sectionPart}
 use Rattle.inside_files.specs.PartsEach.{Each, Met, ahead-met}
 use Rattle.inside_rows.specs.declared.Module.{Module}
 use Rattle.inside_modules.specs.Bounds.{Empty, Lies}
@@ -66,22 +68,22 @@ places-join code (e ∷ l) k =
 
 -- ---- the words of a module
 
-pub word-more : (c : ℕ) (x : Item) (l : List Item) → x .kind ≡ 2
+pub word-more : (c : ℕ) (x : Item) (l : List Item) → x .kind ≡ wordKind
     → wordEntries c (x ∷ l) ≡ entry (c + x .len / 8) (x .at) ∷ wordEntries 5 l
 unfolding wordEntries
-word-more c x l k = rw (eq-eqb (x .kind) 2 k)
+word-more c x l k = rw (eq-eqb (x .kind) wordKind k)
 
-pub word-same : (c : ℕ) (x : Item) (l : List Item) → (x .kind ≡ 2 → ⊥) → wordEntries c (x ∷ l) ≡ wordEntries c l
+pub word-same : (c : ℕ) (x : Item) (l : List Item) → (x .kind ≡ wordKind → ⊥) → wordEntries c (x ∷ l) ≡ wordEntries c l
 unfolding wordEntries
-word-same c x l k = rw (ne-eqb (x .kind) 2 k)
+word-same c x l k = rw (ne-eqb (x .kind) wordKind k)
 
 pub word-count : (c : ℕ) (l : List Item) → length (wordEntries c l) ≡ length (wordsIn l)
 unfolding wordEntries wordsIn
 word-count c [] = refl
 word-count c (x ∷ l) =
-    elim (ℕ-discrete (x .kind) 2) [
-      | yes k ↦ rw (eq-eqb (x .kind) 2 k, word-count 5 l)
-      | no k ↦ rw (ne-eqb (x .kind) 2 k, word-count c l)
+    elim (ℕ-discrete (x .kind) wordKind) [
+      | yes k ↦ rw (eq-eqb (x .kind) wordKind k, word-count 5 l)
+      | no k ↦ rw (ne-eqb (x .kind) wordKind k, word-count c l)
     ]
 
 -- a word's entry says which it is
@@ -101,7 +103,7 @@ word-width c len (inr b) (inl w) =
 word-width c len (inl b) (inr w) = eight-wide (c + len / 8) (inl (omega arith)) ∙ sym w
 word-width c len (inr b) (inr w) = eight-wide (c + len / 8) (inr (omega arith)) ∙ sym w
 
-word-back : (c : ℕ) (x : Item) → (c ≡ 3) ⊎ (c ≡ 5) → x .kind ≡ 2 → x .at < 16777216 → (x .len ≡ 4) ⊎ (x .len ≡ 8)
+word-back : (c : ℕ) (x : Item) → (c ≡ 3) ⊎ (c ≡ 5) → x .kind ≡ wordKind → x .at < 16777216 → (x .len ≡ 4) ⊎ (x .len ≡ 8)
     → let e = entry (c + x .len / 8) (x .at) in word (placeOf e) (widthOf (codeOf e)) ≡ x
 word-back c x first k small wide =
     let e = entry (c + x .len / 8) (x .at) in
@@ -112,16 +114,16 @@ word-back c x first k small wide =
 pub words-back : (c : ℕ) (l : List Item) → (c ≡ 3) ⊎ (c ≡ 5) → Holds (each (inside 16777216) l) → wordsFrom (wordEntries c l) ≡ wordsIn l
 unfolding wordEntries wordsIn each
 words-back c [] first h = unfold wordsFrom in refl
-words-back c (x ∷ l) first (inl k, t) = rw (ne-eqb (x .kind) 2 k) (words-back c l first t)
+words-back c (x ∷ l) first (inl k, t) = rw (ne-eqb (x .kind) wordKind k) (words-back c l first t)
 words-back c (x ∷ l) first (inr (ends, wide), t) =
-    elim (ℕ-discrete (x .kind) 2) [
+    elim (ℕ-discrete (x .kind) wordKind) [
       | yes k ↦
           let small : x .at < 16777216 = elim wide [ inl w ↦ omega arith | inr w ↦ omega arith ] in
           let low : 3 ≤ c = elim first [ inl b ↦ omega arith | inr b ↦ omega arith ] in
-          rw (eq-eqb (x .kind) 2 k)
+          rw (eq-eqb (x .kind) wordKind k)
           (from-more (entry (c + x .len / 8) (x .at)) (wordEntries 5 l) (omega arith)
           ∙ rw (word-back c x first k small wide, words-back 5 l (inr refl) t))
-      | no k ↦ rw (ne-eqb (x .kind) 2 k) (words-back c l first t)
+      | no k ↦ rw (ne-eqb (x .kind) wordKind k) (words-back c l first t)
     ]
 
 -- ---- a module
@@ -139,8 +141,8 @@ module _ (xs : List ℕ) (file at : ℕ) (m : Module) where
 pub base-first : (xs : List ℕ) (m : Module) → Holds (isModule m)
     → wordEntries 3 (items xs m) ≡ entry (3 + m .width / 8) (m .base) ∷ wordEntries 5 (blocksFrom xs m (m .size) 0)
 unfolding wordEntries items headsFrom headItem headCount
-base-first xs m (inl k) = rw (eq-eqb (m .kind) 0x10 k)
-base-first xs m (inr k) = rw (ne-eqb (m .kind) 0x10 (λ z. omega arith), eq-eqb (m .kind) 0x12 k)
+base-first xs m (inl k) = rw (eq-eqb (m .kind) peKind k)
+base-first xs m (inr k) = rw (ne-eqb (m .kind) peKind (λ z. omega arith), eq-eqb (m .kind) teKind k)
 
 pub empty-no : (m : Module) → Empty m → Holds (isModule m) → ⊥
 empty-no m (inl e) (inl k) = let z = ap (λ (m : Module). m .kind) e in omega arith
@@ -151,16 +153,16 @@ empty-no m (inr e) (inr k) = let z = ap (λ (m : Module). m .kind) e in omega ar
 -- ---- the parts
 
 -- the item of a part is no word
-own-no-word : (p : Part) (m : Module) → itemFor p m .kind ≡ 2 → ⊥
+own-no-word : (p : Part) (m : Module) → itemFor p m .kind ≡ wordKind → ⊥
 unfolding itemFor
 own-no-word p m =
-    by-cond (λ (x : Item). x .kind ≡ 2 → ⊥) (eqb (p .kind) 2) _ _
-    (λ e. by-cond (λ (x : Item). x .kind ≡ 2 → ⊥) (eqb (m .kind) 25) _ _ (λ f z. omega arith) (λ f z. omega arith))
-    (λ e. eqb-false (p .kind) 2 e)
+    by-cond (λ (x : Item). x .kind ≡ wordKind → ⊥) (eqb (p .kind) sectionPart) _ _
+    (λ e. by-cond (λ (x : Item). x .kind ≡ wordKind → ⊥) (eqb (m .kind) badKind) _ _ (λ f z. omega arith) (λ f z. omega arith))
+    (λ e. eqb-false (p .kind) sectionPart e)
 
 -- what is known of a part: its own place, where it is a header or holds a module, and its module's words
 pub record Known (xs : List ℕ) (p : Part) : Type 0 where
-  pub header : p .kind ≡ 1 → p .at < 16777216
+  pub header : p .kind ≡ headerPart → p .at < 16777216
   pub holds : Holds (isModule (moduleIn xs p)) → p .at < 16777216
   pub others : (Holds (isModule (moduleIn xs p)) → ⊥) → items xs (moduleIn xs p) ≡ []
   pub words : Holds (each (inside 16777216) (items xs (moduleIn xs p)))
@@ -174,21 +176,21 @@ met-known xs n p small met =
       words = items-inside xs 16777216 p (λ k. omega (arith, met .within k));
     }
   where
-    placed : Holds (isModule (moduleIn xs p)) → Empty (moduleIn xs p) ⊎ ((p .kind ≡ 2) × Lies (p .at + 4) (p .at + p .len) (moduleIn xs p))
+    placed : Holds (isModule (moduleIn xs p)) → Empty (moduleIn xs p) ⊎ ((p .kind ≡ sectionPart) × Lies (p .at + 4) (p .at + p .len) (moduleIn xs p))
         → p .at < 16777216
     placed is (inl e) = absurd (empty-no (moduleIn xs p) e is)
     placed is (inr (k, lies)) =
         omega (arith, met .within k, lies .low, lies .high, lies .pe-up, lies .base-up, lies .base-within, lies .rows-within)
 
     none : (Holds (isModule (moduleIn xs p)) → ⊥)
-        → Empty (moduleIn xs p) ⊎ ((p .kind ≡ 2) × Lies (p .at + 4) (p .at + p .len) (moduleIn xs p)) → items xs (moduleIn xs p) ≡ []
+        → Empty (moduleIn xs p) ⊎ ((p .kind ≡ sectionPart) × Lies (p .at + 4) (p .at + p .len) (moduleIn xs p)) → items xs (moduleIn xs p) ≡ []
     none other (inl e) = items-none xs (moduleIn xs p) e
     none other (inr (k, lies)) = absurd (other (lies .kind))
 
 pub file-small : (xs : List ℕ) (file : ℕ) (p : Part) → file < 16777216 → Known xs p → fileOf file p < 16777216
 unfolding fileOf
 file-small xs file p small known =
-    by-cond (λ (n : ℕ). n < 16777216) (eqb (p .kind) 1) _ _ (λ e. known .header (eqb-true (p .kind) 1 e)) (λ e. small)
+    by-cond (λ (n : ℕ). n < 16777216) (eqb (p .kind) headerPart) _ _ (λ e. known .header (eqb-true (p .kind) headerPart e)) (λ e. small)
 
 pub module-words : (xs : List ℕ) (file at : ℕ) (m : Module) → file < 16777216 → (Holds (isModule m) → at < 16777216)
     → ((Holds (isModule m) → ⊥) → items xs m ≡ []) → Holds (each (inside 16777216) (items xs m))

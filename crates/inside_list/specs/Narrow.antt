@@ -9,10 +9,10 @@ use native.Mathlib.Omega.{arith}
 use lib.Dec.{eqb}
 use lib.ListN.{length, getD}
 use Rattle.facts.specs.Fact.{Holds}
-use Rattle.facts.specs.Rules.{by-cond, by-test}
+use Rattle.facts.specs.RulesLaws.{by-cond, by-test}
 use borrow.Author.Tests.{eqb-true}
 use Rattle.items.specs.declared.Item.{Item}
-use Rattle.items.specs.Items.{each, inside}
+use Rattle.items.specs.Items.{each, inside, wordKind}
 use Rattle.inside_files.specs.declared.Part.{Part}
 use Rattle.inside_files.specs.PartsEach.{Each, Met}
 use Rattle.inside_rows.specs.declared.Module.{Module}
@@ -40,10 +40,10 @@ words-narrow : (c : ℕ) (l : List Item) → c ≤ 5 → Holds (each (inside 167
 unfolding wordEntries each
 words-narrow c [] low h = tt
 words-narrow c (x ∷ l) low (h, t) =
-    by-cond (λ (k : List ℕ). Narrow k) (eqb (x .kind) 2) _ _
-    (λ e. (one (eqb-true (x .kind) 2 e) h, words-narrow 5 l (omega arith) t)) (λ e. words-narrow c l low t)
+    by-cond (λ (k : List ℕ). Narrow k) (eqb (x .kind) wordKind) _ _
+    (λ e. (one (eqb-true (x .kind) wordKind e) h, words-narrow 5 l (omega arith) t)) (λ e. words-narrow c l low t)
   where
-    one : x .kind ≡ 2 → Holds (inside 16777216 x) → entry (c + x .len / 8) (x .at) < 2 ^ 32
+    one : x .kind ≡ wordKind → Holds (inside 16777216 x) → entry (c + x .len / 8) (x .at) < 2 ^ 32
     one k (inl other) = absurd (other k)
     one k (inr (ends, inl w)) = omega arith
     one k (inr (ends, inr w)) = omega arith

@@ -9,7 +9,7 @@ ghost use lib.ListN.{length};
 ghost use Rattle.facts.specs.Fact.{Holds, Tells};
 ghost use Rattle.words.specs.Put.{putAll};
 ghost use Rattle.items.specs.Items.{each, inside, wordsIn};
-ghost use Rattle.inside_modules.specs.Modules.{Fits};
+ghost use Rattle.inside_modules.specs.ModulesFit.{Fits};
 ghost use Rattle.inside_blocks.specs.Blocks.{items};
 ghost use Rattle.inside_walk.specs.Walkable.{Walkable};
 ghost use Rattle.inside_list.specs.Inventory.{entry, isModule, wordEntries, moduleEntries, fileOf, inventory, countsOf};
@@ -32,10 +32,10 @@ pub struct Next {
 fn is_module(m: Module) -> bool
     ensures { λ r. ⌜ Tells r (isModule m) ⌝ }
 {
-    if m.kind == 0x10 {
+    if m.kind == inside_rows::PE32 {
         return true;
     }
-    if m.kind == 0x12 {
+    if m.kind == inside_rows::TE {
         return true;
     }
     false
@@ -46,7 +46,7 @@ fn count_word(n: usize, x: Item) -> usize
     requires { ⌜ n < 8589934592 ⌝ }
     ensures { λ r. ⌜ r ≡ n + length (wordsIn (x ∷ [])) ⌝ }
 {
-    if x.kind == 2 {
+    if x.kind == items::WORD {
         return n + 1;
     }
     n
@@ -61,7 +61,7 @@ fn count_words(image: &[u8], m: Module) -> usize
     loop {
         let t = inside_blocks::step(image, m, c);
         let x = t.item;
-        if x.kind == 0 {
+        if x.kind == items::END {
             return n;
         }
         n = count_word(n, x);
@@ -98,7 +98,7 @@ pub fn count(image: &[u8], v: usize, f: usize) -> Counts
     loop {
         let t = inside_files::step(image, v, c);
         let p = t.part;
-        if p.kind == 0 {
+        if p.kind == inside_files::NO_PART {
             return n;
         }
         let m = inside_walk::module_in(image, p);
@@ -120,7 +120,7 @@ fn fill_word(places: &mut [u8], n: Next, x: Item) -> Next
     requires { ⌜ (n .code ≤ 5) × Holds (inside 16777216 x) × (x .kind ≡ 2 → 4 * (n .at + 1) ≤ length (now places)) ⌝ }
     ensures { λ u. ⌜ Filled (now (places .entry)) (now (places .exit)) n x u ⌝ }
 {
-    if x.kind != 2 {
+    if x.kind != items::WORD {
         return n;
     }
     let i = n.at;
@@ -139,7 +139,7 @@ fn fill_words(image: &[u8], places: &mut [u8], i: usize, m: Module) -> usize
     loop {
         let t = inside_blocks::step(image, m, c);
         let x = t.item;
-        if x.kind == 0 {
+        if x.kind == items::END {
             return n.at;
         }
         n = fill_word(places, n, x);
@@ -171,7 +171,7 @@ fn fill_module(
 fn file_of(file: usize, p: Part) -> usize
     ensures { λ r. ⌜ r ≡ fileOf file p ⌝ }
 {
-    if p.kind == 1 {
+    if p.kind == inside_files::HEADER {
         return p.at;
     }
     file
@@ -188,7 +188,7 @@ pub fn fill(image: &[u8], v: usize, f: usize, places: &mut [u8], k: usize)
     loop {
         let t = inside_files::step(image, v, c);
         let p = t.part;
-        if p.kind == 0 {
+        if p.kind == inside_files::NO_PART {
             return;
         }
         file = file_of(file, p);

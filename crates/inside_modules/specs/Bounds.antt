@@ -7,10 +7,10 @@ use mathlib.Core.Path.{_≡_, refl}
 use native.Mathlib.Omega.{arith}
 use lib.Dec.{eqb}
 use Rattle.facts.specs.Fact.{_≡?_}
-use Rattle.facts.specs.Rules.{by-test, by-cond}
+use Rattle.facts.specs.RulesLaws.{by-test, by-cond}
 use Rattle.words.specs.Le.{le}
 use Rattle.inside_rows.specs.declared.Module.{Module}
-use Rattle.inside_rows.specs.Rows.{noModule, badModule, rowsFit, judged}
+use Rattle.inside_rows.specs.Rows.{noModule, badModule, rowsFit, judged, peKind, teKind}
 use Rattle.inside_modules.specs.Modules.{kindFits, peModule, fromKind}
 use Rattle.inside_modules.specs.Modules.{roomFits, fromOptional, peFits, fromPe, dosFits, peOf, teFits, teModule, teOf, moduleOf}
 
@@ -30,7 +30,7 @@ pub record Lies (lo hi : ℕ) (m : Module) : Type 0 where
   pub some-after : m .base + m .width < m .table
   pub rows-within : m .table + 40 * m .rows ≤ m .hi
   pub width : (m .width ≡ 4) ⊎ (m .width ≡ 8)
-  pub kind : (m .kind ≡ 0x10) ⊎ (m .kind ≡ 0x12)
+  pub kind : (m .kind ≡ peKind) ⊎ (m .kind ≡ teKind)
 
 bad-empty : Empty badModule
 bad-empty = inr refl

@@ -8,26 +8,27 @@ use native.Mathlib.Omega.{arith}
 use native.Mathlib.Decide.{decLt}
 use borrow.Author.Tests.{le-ltb}
 use lib.Dec.{eqb}
-use Rattle.facts.specs.Fact.{_≡?_, Holds, test, passes, fails}
-use Rattle.facts.specs.Rules.{by-test}
+use Rattle.facts.specs.Fact.{_≡?_, Holds, test}
+use Rattle.facts.specs.FactLaws.{passes, fails}
+use Rattle.facts.specs.RulesLaws.{by-test}
 use Rattle.words.specs.Le.{le, Alike}
 use Rattle.words.specs.LeLaws.{le-in, alike-in}
 use Rattle.inside_rows.specs.declared.Module.{Module}
-use Rattle.inside_rows.specs.Rows.{noModule, badModule, rowsFit, judged}
+use Rattle.inside_rows.specs.Rows.{noModule, badModule, rowsFit, judged, badKind, peKind}
 use Rattle.inside_rows.specs.RowsLaws.{rows-fit-cong}
 use Rattle.inside_modules.specs.Modules.{counted, kindFits, peModule, fromKind}
 use Rattle.inside_modules.specs.Modules.{roomFits, fromOptional, peFits, fromPe, dosFits, peOf, teFits, teModule, teOf, moduleOf}
 
 -- a and b agree on the headers of m: a PE32 module's first, what stands before the image base, and what stands after it
 pub record Seen (a b : List ℕ) (m : Module) : Type 0 where
-  pub dos : m .kind ≡ 0x10 → Alike a b (m .lo) 64
+  pub dos : m .kind ≡ peKind → Alike a b (m .lo) 64
   pub before : Alike a b (m .pe) (m .base - m .pe)
   pub after : Alike a b (m .base + m .width) (m .table + 40 * m .rows - (m .base + m .width))
 
 module _ (a b : List ℕ) (lo hi : ℕ) where
   -- a module that isn't broken is r, where b has its headers too
   abbrev Is : Module → Module → Type 0
-  Is r m = (m .kind ≡ 25 → ⊥) → Seen a b m → m ≡ r
+  Is r m = (m .kind ≡ badKind → ⊥) → Seen a b m → m ≡ r
 
   bad : (r : Module) → Is r badModule
   bad r ok seen = absurd (ok refl)
@@ -49,8 +50,8 @@ module _ (a b : List ℕ) (lo hi : ℕ) where
     kindOf xs = fromKind xs lo hi opt soh rows fixed at w
 
     -- what isn't broken is the module itself
-    kind-shape : (kindOf a .kind ≡ 25 → ⊥)
-        → (kindOf a .kind ≡ 0x10) × (kindOf a .lo ≡ lo) × (kindOf a .pe ≡ opt - 24) × (kindOf a .base ≡ opt + at)
+    kind-shape : (kindOf a .kind ≡ badKind → ⊥)
+        → (kindOf a .kind ≡ peKind) × (kindOf a .lo ≡ lo) × (kindOf a .pe ≡ opt - 24) × (kindOf a .base ≡ opt + at)
     unfolding fromKind judged
     kind-shape =
         by-test Shape (kindFits a opt soh fixed) _ _
@@ -58,7 +59,7 @@ module _ (a b : List ℕ) (lo hi : ℕ) where
         (λ h ok. absurd (ok refl))
       where
         Shape : Module → Type 0
-        Shape m = (m .kind ≡ 25 → ⊥) → (m .kind ≡ 0x10) × (m .lo ≡ lo) × (m .pe ≡ opt - 24) × (m .base ≡ opt + at)
+        Shape m = (m .kind ≡ badKind → ⊥) → (m .kind ≡ peKind) × (m .lo ≡ lo) × (m .pe ≡ opt - 24) × (m .base ≡ opt + at)
 
     kind-cong : at + w + 4 ≤ fixed → Is (kindOf b) (kindOf a)
     unfolding fromKind judged
@@ -83,7 +84,7 @@ module _ (a b : List ℕ) (lo hi : ℕ) where
             rw (passes (kindFits b opt soh fixed) fits′, passes (rowsFit b (made b)) rows-fit′, dir, size, count)
 
   optional-shape : (opt soh rows : ℕ) → let m = fromOptional a lo hi opt soh rows in
-      (m .kind ≡ 25 → ⊥) → (m .kind ≡ 0x10) × (m .lo ≡ lo) × (m .pe ≡ opt - 24) × (opt + 24 ≤ m .base)
+      (m .kind ≡ badKind → ⊥) → (m .kind ≡ peKind) × (m .lo ≡ lo) × (m .pe ≡ opt - 24) × (opt + 24 ≤ m .base)
   unfolding fromOptional
   optional-shape opt soh rows =
       by-test Shape (roomFits hi opt soh rows) _ _
@@ -92,7 +93,7 @@ module _ (a b : List ℕ) (lo hi : ℕ) where
       (λ h ok. absurd (ok refl))
     where
       Shape : Module → Type 0
-      Shape m = (m .kind ≡ 25 → ⊥) → (m .kind ≡ 0x10) × (m .lo ≡ lo) × (m .pe ≡ opt - 24) × (opt + 24 ≤ m .base)
+      Shape m = (m .kind ≡ badKind → ⊥) → (m .kind ≡ peKind) × (m .lo ≡ lo) × (m .pe ≡ opt - 24) × (opt + 24 ≤ m .base)
 
       kind : (fixed at w : ℕ) → 24 ≤ at → Shape (fromKind a lo hi opt soh rows fixed at w)
       kind fixed at w h ok = let (k, l, p, e) = kind-shape opt soh rows fixed at w ok in (k, l, p, omega arith)
@@ -116,16 +117,16 @@ module _ (a b : List ℕ) (lo hi : ℕ) where
       (λ f. bad (fromOptional b lo hi opt soh rows))))
       (λ h. bad (fromOptional b lo hi opt soh rows))
     where
-      looks : (fixed at w : ℕ) → 24 ≤ at → (fromKind a lo hi opt soh rows fixed at w .kind ≡ 25 → ⊥)
+      looks : (fixed at w : ℕ) → 24 ≤ at → (fromKind a lo hi opt soh rows fixed at w .kind ≡ badKind → ⊥)
           → Seen a b (fromKind a lo hi opt soh rows fixed at w) → le 2 a opt ≡ le 2 b opt
       looks fixed at w h ok seen =
           let (k, l, p, e) = kind-shape opt soh rows fixed at w ok in
           le-in (seen .before) 2 opt (omega arith) (omega arith)
 
-  pe-shape : (pe : ℕ) → let m = fromPe a lo hi pe in (m .kind ≡ 25 → ⊥) → (m .kind ≡ 0x10) × (m .lo ≡ lo)
+  pe-shape : (pe : ℕ) → let m = fromPe a lo hi pe in (m .kind ≡ badKind → ⊥) → (m .kind ≡ peKind) × (m .lo ≡ lo)
   unfolding fromPe
   pe-shape pe =
-      by-test (λ (m : Module). (m .kind ≡ 25 → ⊥) → (m .kind ≡ 0x10) × (m .lo ≡ lo)) (peFits a hi pe) _ _
+      by-test (λ (m : Module). (m .kind ≡ badKind → ⊥) → (m .kind ≡ peKind) × (m .lo ≡ lo)) (peFits a hi pe) _ _
       (λ h ok. let (k, l, p, e) = optional-shape (pe + 24) (le 2 a (pe + 20)) (le 2 a (pe + 6)) ok in (k, l)) (λ h ok. absurd (ok refl))
 
   pe-cong : (pe : ℕ) → Is (fromPe b lo hi pe) (fromPe a lo hi pe)
@@ -183,12 +184,12 @@ module _ (a b : List ℕ) (lo hi : ℕ) where
 
 -- images that agree on the headers of a module that isn't broken have the same one there
 pub module-cong : (a b : List ℕ) (t lo hi : ℕ) → let m = moduleOf a t lo hi in
-    (m .kind ≡ 25 → ⊥) → Seen a b m → m ≡ moduleOf b t lo hi
+    (m .kind ≡ badKind → ⊥) → Seen a b m → m ≡ moduleOf b t lo hi
 unfolding moduleOf
 module-cong a b t lo hi = go (eqb t 0x10) (eqb t 0x12)
   where
     go : (s r : Bool) → let m = cond s (peOf a lo hi) (cond r (teOf a lo hi) noModule) in
-        (m .kind ≡ 25 → ⊥) → Seen a b m → m ≡ cond s (peOf b lo hi) (cond r (teOf b lo hi) noModule)
+        (m .kind ≡ badKind → ⊥) → Seen a b m → m ≡ cond s (peOf b lo hi) (cond r (teOf b lo hi) noModule)
     go true r = dos-cong a b lo hi
     go false true = te-cong a b lo hi
     go false false = λ ok seen. refl

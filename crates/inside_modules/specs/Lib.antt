@@ -1,4 +1,5 @@
 pub mod Modules
+pub mod ModulesFit
 pub mod ModulesLaws
 pub mod Bounds
 pub mod Frame

@@ -1,16 +1,13 @@
 -- Request #107: the headers of a module, which lies at lo..hi-1, as far as they are judged. PE32 by the PE/COFF document, TE by the PI one.
 -- Assumes nothing.
-use Prim.Native.Nat.{ℕ, _+_, _-_, _*_, _≤_, _<_}
+use Prim.Native.Nat.{ℕ, _+_, _-_, _*_}
 use mathlib.Core.Bool.{cond}
 use mathlib.Core.List.{List}
-use mathlib.Core.Logic.{_⊎_}
-use mathlib.Core.Path.{_≡_}
 use lib.Dec.{ltb, eqb}
-use lib.ListN.{length}
 use Rattle.facts.specs.Fact.{Fact, _≤?_, _≡?_, _and_, test}
 use Rattle.words.specs.Le.{le}
 use Rattle.inside_rows.specs.declared.Module.{Module}
-use Rattle.inside_rows.specs.Rows.{noModule, badModule, judged}
+use Rattle.inside_rows.specs.Rows.{noModule, badModule, judged, peKind, teKind}
 
 -- ---- PE32
 
@@ -27,7 +24,7 @@ abbrev pub peModule : List ℕ → ℕ → ℕ → ℕ → ℕ → ℕ → ℕ �
 peModule xs lo hi opt soh rows fixed b w =
     let count = le 4 xs (opt + (fixed - 4)) in
     record {
-      kind = 0x10;
+      kind = peKind;
       lo = lo;
       hi = hi;
       pe = opt - 24;
@@ -80,7 +77,7 @@ teFits xs lo hi = lo + 40 ≤? hi and le 2 xs lo ≡? 0x5A56 and lo + 40 + 40 * 
 abbrev pub teModule : List ℕ → ℕ → ℕ → Module
 teModule xs lo hi =
     record {
-      kind = 0x12;
+      kind = teKind;
       lo = lo;
       hi = hi;
       pe = lo;
@@ -99,17 +96,3 @@ teOf xs lo hi = cond (test (teFits xs lo hi)) (judged xs (teModule xs lo hi)) ba
 -- ---- the module in a section of this type: 0x10 is PE32, 0x12 is TE, any other has none
 unfoldable pub moduleOf : List ℕ → ℕ → ℕ → ℕ → Module
 moduleOf xs t lo hi = cond (eqb t 0x10) (peOf xs lo hi) (cond (eqb t 0x12) (teOf xs lo hi) noModule)
-
--- the bounds that every module has
-pub record Fits (xs : List ℕ) (m : Module) : Type 0 where
-  pub long : length xs ≤ 16777216
-  pub within : m .hi ≤ length xs
-  pub pe-up : m .lo ≤ m .pe
-  pub base-up : m .pe ≤ m .base
-  pub base-within : m .base + m .width ≤ m .table
-  pub rows-within : m .table + 40 * m .rows ≤ m .hi
-  pub dos : m .kind ≡ 0x10 → m .lo + 64 ≤ m .hi
-  pub stripped-small : m .stripped < 65536
-  pub dir-small : m .dir < 4294967296
-  pub size-small : m .size < 4294967296
-  pub headed : (m .rows ≡ 0) ⊎ ((m .kind ≡ 0x10) ⊎ (m .kind ≡ 0x12))

@@ -9,12 +9,13 @@ use native.Mathlib.Omega.{arith}
 use lib.Dec.{ltb, eqb}
 use lib.ListN.{length}
 use Rattle.facts.specs.Fact.{Fact, _≡?_, Holds, test}
-use Rattle.facts.specs.Rules.{by-test, by-cond}
+use Rattle.facts.specs.RulesLaws.{by-test, by-cond}
 use Rattle.words.specs.Le.{le, Bytes}
 use Rattle.words.specs.LeLaws.{le-lt}
 use Rattle.inside_rows.specs.declared.Module.{Module}
 use Rattle.inside_rows.specs.Rows.{noModule, badModule, rowsFit, judged}
-use Rattle.inside_modules.specs.Modules.{counted, kindFits, peModule, fromKind, Fits}
+use Rattle.inside_modules.specs.Modules.{counted, kindFits, peModule, fromKind}
+use Rattle.inside_modules.specs.ModulesFit.{Fits}
 use Rattle.inside_modules.specs.Modules.{roomFits, fromOptional, peFits, fromPe, dosFits, peOf, teFits, teModule, teOf, moduleOf}
 
 module _ (xs : List ℕ) (bytes : Bytes xs) (long : length xs ≤ 16777216) where

@@ -51,7 +51,7 @@ fn from_kind(
     let dir = counted_at(image, count, opt + fixed + 40);
     let size = counted_at(image, count, opt + fixed + 44);
     let m = Module {
-        kind: 0x10,
+        kind: inside_rows::PE32,
         lo,
         hi,
         pe: opt - 24,
@@ -143,7 +143,7 @@ fn te_of(image: &[u8], lo: usize, hi: usize) -> Module
     let dir = words::le32(image, lo + 24);
     let size = words::le32(image, lo + 28);
     let m = Module {
-        kind: 0x12,
+        kind: inside_rows::TE,
         lo,
         hi,
         pe: lo,

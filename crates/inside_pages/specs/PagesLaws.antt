@@ -5,12 +5,13 @@ use mathlib.Core.List.{List}
 use mathlib.Core.Path.{_≡_, refl}
 use native.Mathlib.Omega.{arith}
 use borrow.Author.Tests.{lt-ltb, eq-eqb, ne-eqb}
-use Rattle.facts.specs.Fact.{Holds, passes}
-use Rattle.facts.specs.First.{is-first}
+use Rattle.facts.specs.Fact.{Holds}
+use Rattle.facts.specs.FactLaws.{passes}
+use Rattle.facts.specs.FirstLaws.{is-first}
 use Rattle.words.specs.Le.{Alike}
 use Rattle.inside_rows.specs.declared.Module.{Module}
 use Rattle.inside_rows.specs.declared.Row.{Row}
-use Rattle.inside_rows.specs.Rows.{rowAt}
+use Rattle.inside_rows.specs.Rows.{rowAt, teKind}
 use Rattle.inside_places.specs.Places.{covers, rowOf, foundIn, teHolds, shifted, found}
 use Rattle.inside_places.specs.PlacesLaws.{found-cong}
 use Rattle.inside_pages.specs.declared.Page.{Page}
@@ -30,7 +31,7 @@ module _ (xs : List ℕ) (m : Module) (page i : ℕ) (first : FirstRow xs m page
         fault = λ l d. d here;
       })
 
-  pub paged-in : (q : Page) → (m .kind ≡ 0x12 → ⊥) → row .va ≤ page + q .floor → m .lo + row .ptr + row .raw ≤ m .hi → q .page ≡ page
+  pub paged-in : (q : Page) → (m .kind ≡ teKind → ⊥) → row .va ≤ page + q .floor → m .lo + row .ptr + row .raw ≤ m .hi → q .page ≡ page
       → q .at + row .va ≡ m .lo + row .ptr + page → page + q .room ≡ row .va + row .raw → Paged xs m page q
   unfolding found foundIn
   paged-in q kind low high is at room =
@@ -38,11 +39,11 @@ module _ (xs : List ℕ) (m : Module) (page i : ℕ) (first : FirstRow xs m page
         is = is;
         within = omega arith;
         finds = λ o k h up long fit.
-            rw (ne-eqb (m .kind) 0x12 kind, ← row-is o k h long (omega arith, omega arith), lt-ltb i (m .rows) some) (omega arith);
+            rw (ne-eqb (m .kind) teKind kind, ← row-is o k h long (omega arith, omega arith), lt-ltb i (m .rows) some) (omega arith);
       }
 
 -- a TE module has all bytes at one shift
-pub paged-shifted : (xs : List ℕ) (m : Module) (page : ℕ) (q : Page) → m .kind ≡ 0x12 → m .stripped ≤ page + 40 + q .floor → q .page ≡ page
+pub paged-shifted : (xs : List ℕ) (m : Module) (page : ℕ) (q : Page) → m .kind ≡ teKind → m .stripped ≤ page + 40 + q .floor → q .page ≡ page
     → q .at + m .stripped ≡ m .lo + page + 40 → q .at + q .room ≡ m .hi → Paged xs m page q
 unfolding found shifted
 paged-shifted xs m page q kind low is at room =
@@ -50,7 +51,7 @@ paged-shifted xs m page q kind low is at room =
       is = is;
       within = omega arith;
       finds = λ o k h up long fit.
-          rw (eq-eqb (m .kind) 0x12 kind, passes (teHolds m (page + o) k) (omega arith, omega arith)) (omega arith);
+          rw (eq-eqb (m .kind) teKind kind, passes (teHolds m (page + o) k) (omega arith, omega arith)) (omega arith);
     }
 
 -- images that agree on the section headers have the page at the same place

@@ -5,7 +5,7 @@ ghost use mathlib.Core.Path.{_≡_};
 ghost use Prim.Native.Nat.{_+_, _*_, _≤_, _<_};
 ghost use lib.ListN.{length};
 ghost use Rattle.facts.specs.Fact.{Tells};
-ghost use Rattle.inside_modules.specs.Modules.{Fits};
+ghost use Rattle.inside_modules.specs.ModulesFit.{Fits};
 ghost use Rattle.inside_pages.specs.Pages.{reaches, FirstRow, Paged};
 
 // A block's page, and where it would lie in the image: what starts at `floor` or after and ends in `room` is found by adding its offset. No room
@@ -116,7 +116,7 @@ pub fn page_of(image: &[u8], m: Module, page: usize) -> Page
     requires { ⌜ Fits (now image) m × (page < 4294967296) ⌝ }
     ensures { λ r. ⌜ Paged (now (image .entry)) m page r ⌝ }
 {
-    if m.kind == 0x12 {
+    if m.kind == inside_rows::TE {
         return page_shifted(image, m, page);
     }
     page_in(image, m, page)

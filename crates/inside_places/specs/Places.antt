@@ -8,7 +8,7 @@ use Rattle.facts.specs.Fact.{Fact, _≤?_, deny, _and_, test}
 use Rattle.facts.specs.First.{firstFault}
 use Rattle.inside_rows.specs.declared.Module.{Module}
 use Rattle.inside_rows.specs.declared.Row.{Row}
-use Rattle.inside_rows.specs.Rows.{rowAt}
+use Rattle.inside_rows.specs.Rows.{rowAt, teKind}
 use Rattle.inside_places.specs.declared.Span.{Span}
 
 -- nowhere: both are the module's end, where no byte of it lies
@@ -45,4 +45,4 @@ shifted m rva k = cond (test (teHolds m rva k)) (record { at = m .lo + (rva + 40
 -- ---- either
 
 unfoldable pub found : List ℕ → Module → ℕ → ℕ → Span
-found xs m rva k = cond (eqb (m .kind) 0x12) (shifted m rva k) (foundIn xs m rva k)
+found xs m rva k = cond (eqb (m .kind) teKind) (shifted m rva k) (foundIn xs m rva k)

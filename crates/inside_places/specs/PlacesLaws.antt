@@ -8,12 +8,13 @@ use native.Mathlib.Omega.{arith}
 use native.Mathlib.Decide.{decLt}
 use borrow.Author.Tests.{le-ltb}
 use lib.Dec.{ltb, eqb}
-use Rattle.facts.specs.Fact.{Fact, Holds, Says, says, test}
-use Rattle.facts.specs.First.{first, first-cong}
-use Rattle.facts.specs.Rules.{by-cond, by-test}
+use Rattle.facts.specs.Fact.{Fact, Holds, Says, test}
+use Rattle.facts.specs.FactLaws.{says}
+use Rattle.facts.specs.FirstLaws.{first, first-cong}
+use Rattle.facts.specs.RulesLaws.{by-cond, by-test}
 use Rattle.words.specs.Le.{Alike}
 use Rattle.inside_rows.specs.declared.Module.{Module}
-use Rattle.inside_rows.specs.Rows.{rowAt}
+use Rattle.inside_rows.specs.Rows.{rowAt, teKind}
 use Rattle.inside_rows.specs.RowsLaws.{row-cong}
 use Rattle.inside_places.specs.declared.Span.{Span}
 use Rattle.inside_places.specs.Places.{covers, rowOf, foundIn, teHolds, shifted, found}
@@ -56,6 +57,6 @@ module _ (a b : List ℕ) (m : Module) (rows : Alike a b (m .table) (40 * m .row
 pub found-up : (xs : List ℕ) (m : Module) (rva k : ℕ) → m .lo ≤ m .hi → m .lo ≤ found xs m rva k .at
 unfolding found shifted foundIn
 found-up xs m rva k h =
-    by-cond (λ (s : Span). m .lo ≤ s .at) (eqb (m .kind) 0x12) _ _
+    by-cond (λ (s : Span). m .lo ≤ s .at) (eqb (m .kind) teKind) _ _
     (λ e. by-test (λ (s : Span). m .lo ≤ s .at) (teHolds m rva k) _ _ (λ f. omega arith) (λ f. h))
     (λ e. by-cond (λ (s : Span). m .lo ≤ s .at) (ltb (rowOf xs m rva k) (m .rows)) _ _ (λ f. omega arith) (λ f. h))

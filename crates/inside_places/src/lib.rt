@@ -5,7 +5,7 @@ ghost use mathlib.Core.Path.{_≡_};
 ghost use Prim.Native.Nat.{_+_, _*_, _≤_, _<_};
 ghost use lib.ListN.{length};
 ghost use Rattle.facts.specs.Fact.{Tells};
-ghost use Rattle.inside_modules.specs.Modules.{Fits};
+ghost use Rattle.inside_modules.specs.ModulesFit.{Fits};
 ghost use Rattle.inside_places.specs.Places.{covers, rowOf, foundIn, teHolds, shifted, found};
 
 // The place of an address, and where the data ends in which it lies. Both are the module's end where it lies in none.
@@ -95,7 +95,7 @@ pub fn find(image: &[u8], m: Module, rva: usize, k: usize) -> Span
     requires { ⌜ Fits (now image) m × (rva < 17179869184) × (k ≤ 8) ⌝ }
     ensures { λ r. ⌜ (r ≡ found (now (image .entry)) m rva k) × (r .at < 68719476736) × (r .end < 68719476736) ⌝ }
 {
-    if m.kind == 0x12 {
+    if m.kind == inside_rows::TE {
         return shift(m, rva, k);
     }
     find_in(image, m, rva, k)

@@ -8,15 +8,35 @@ use Rattle.words.specs.Le.{le}
 use Rattle.inside_rows.specs.declared.Module.{Module}
 use Rattle.inside_rows.specs.declared.Row.{Row}
 
+-- ---- the kinds of modules, by their numbers: those of their sections
+
+-- none
+abbrev pub noKind : ℕ
+noKind = 0
+
+-- PE32
+abbrev pub peKind : ℕ
+peKind = 0x10
+
+-- TE
+abbrev pub teKind : ℕ
+teKind = 0x12
+
+-- one whose headers don't fit
+abbrev pub badKind : ℕ
+badKind = 25
+
+-- ---- modules
+
 -- what is no module
 abbrev pub noModule : Module
 noModule =
-    record { kind = 0; lo = 0; hi = 0; pe = 0; base = 0; width = 0; table = 0; rows = 0; stripped = 0; dir = 0; size = 0 }
+    record { kind = noKind; lo = 0; hi = 0; pe = 0; base = 0; width = 0; table = 0; rows = 0; stripped = 0; dir = 0; size = 0 }
 
 -- what should be one and isn't
 abbrev pub badModule : Module
 badModule =
-    record { kind = 25; lo = 0; hi = 0; pe = 0; base = 0; width = 0; table = 0; rows = 0; stripped = 0; dir = 0; size = 0 }
+    record { kind = badKind; lo = 0; hi = 0; pe = 0; base = 0; width = 0; table = 0; rows = 0; stripped = 0; dir = 0; size = 0 }
 
 -- section header i of those at t: address, size of its data, place of its data
 unfoldable pub rowAt : List ℕ → ℕ → ℕ → Row

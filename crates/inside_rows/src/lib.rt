@@ -5,6 +5,14 @@ ghost use lib.ListN.{length};
 ghost use Rattle.facts.specs.Fact.{Tells};
 ghost use Rattle.inside_rows.specs.Rows.{noModule, badModule, rowAt, dataFits, rowsFit, judged};
 
+pub const NO_MODULE: u32 = 0;
+
+pub const PE32: u32 = 0x10;
+
+pub const TE: u32 = 0x12;
+
+pub const BAD: u32 = 25;
+
 // What the walk needs of a module: kind 0x10 (PE32), 0x12 (TE), 0 (none) or 25 (headers that don't fit, all else 0); its bytes lo..hi-1;
 // where its second header and its image base stand, and the base's width; place and count of its section headers; the bytes that were
 // stripped (40 for PE32); the relocation directory's address and size.
@@ -34,7 +42,7 @@ pub fn none() -> Module
     ensures { λ m. ⌜ m ≡ noModule ⌝ }
 {
     Module {
-        kind: 0,
+        kind: NO_MODULE,
         lo: 0,
         hi: 0,
         pe: 0,
@@ -53,7 +61,7 @@ pub fn refused() -> Module
     ensures { λ m. ⌜ m ≡ badModule ⌝ }
 {
     Module {
-        kind: 25,
+        kind: BAD,
         lo: 0,
         hi: 0,
         pe: 0,

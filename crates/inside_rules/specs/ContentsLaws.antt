@@ -6,7 +6,8 @@ use mathlib.Core.Logic.{_⊎_, inl, inr}
 use mathlib.Core.Path.{_≡_}
 use native.Mathlib.Omega.{arith}
 use lib.ListN.{length}
-use Rattle.facts.specs.Fact.{Fact, _and_, Holds, passes, fails}
+use Rattle.facts.specs.Fact.{Fact, _and_, Holds}
+use Rattle.facts.specs.FactLaws.{passes, fails}
 use Rattle.facts.specs.Rules.{run}
 use Rattle.table.specs.Passes.{place}
 use Rattle.table.specs.PassesLaws.{place-placed}

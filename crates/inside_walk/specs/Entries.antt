@@ -9,14 +9,15 @@ use native.Mathlib.Decide.{ℕ-discrete}
 use borrow.Author.Tests.{eq-eqb, ne-eqb}
 use lib.Dec.{eqb}
 use lib.ListN.{length}
-use Rattle.facts.specs.Rules.{by-cond}
+use Rattle.facts.specs.RulesLaws.{by-cond}
 use Rattle.items.specs.declared.Item.{Item}
 use Rattle.inside_files.specs.Parts as files
 use Rattle.inside_rows.specs.declared.Module.{Module}
 use Rattle.inside_blocks.specs.Blocks.{headsFrom, entriesFrom, blocksFrom}
-use Rattle.inside_blocks.specs.Blocks as blocks
+use Rattle.inside_blocks.specs.BlocksWalk as blocksWalk
 use Rattle.inside_walk.specs.declared.Spot.{Spot}
-use Rattle.inside_walk.specs.Whole.{spread, walked, ahead, far, Valid}
+use Rattle.inside_walk.specs.Whole.{spread, walked}
+use Rattle.inside_walk.specs.WholeWalk.{ahead, far, Valid}
 use Rattle.inside_walk.specs.Walkable.{Passing}
 
 -- how many: none while headers are to come
@@ -48,12 +49,12 @@ heads-none m = refl
 pub ahead-entries : (xs : List ℕ) (v : ℕ) (s : Spot) → ahead xs v s ≡ entriesOf xs s ++ ahead xs v (pastOf s)
 ahead-entries xs v s =
     elim (ℕ-discrete (s .c .heads) 0) [
-      | yes e ↦ unfold ahead in unfold blocks.ahead in unfold countOf in unfold pastOf in
+      | yes e ↦ unfold ahead in unfold blocksWalk.ahead in unfold countOf in unfold pastOf in
           let none : s .c .left - s .c .left ≡ 0 = omega arith in
           rw (eq-eqb (s .c .heads) 0 e, e, heads-none (s .m), none, entries-none xs s)
           (append-assoc (entriesFrom xs (s .m) (s .c .page) (s .c .at) (s .c .left)) (blocksFrom xs (s .m) (s .m .size - s .c .used) (s .c .used))
           (spread xs (files.ahead xs v (s .place))))
-      | no e ↦ unfold ahead in unfold blocks.ahead in unfold countOf in unfold pastOf in
+      | no e ↦ unfold ahead in unfold blocksWalk.ahead in unfold countOf in unfold pastOf in
           let all : s .c .left - 0 ≡ s .c .left = omega arith in
           rw (ne-eqb (s .c .heads) 0 e, all, entries-none xs s)
     ]

@@ -1,5 +1,6 @@
 -- Request #107: what rules 3 and 4 give of the volume and its header file, so that the walk can start; and where a walk stands.
 -- Assumes nothing.
+use Rattle.items.specs.Items.{endKind}
 use Prim.Native.Nat.{ℕ, _+_, _-_, _≤_}
 use mathlib.Core.List.{List, [], _∷_, _++_, append-assoc, append-nil}
 use mathlib.Core.Path.{_≡_, sym, _∙_}
@@ -9,7 +10,8 @@ use Rattle.words.specs.Le.{le, Bytes}
 use Rattle.items.specs.declared.Item.{Item}
 use Rattle.inside_walk.specs.declared.Spot.{Spot}
 use Rattle.inside_walk.specs.declared.Move.{Move}
-use Rattle.inside_walk.specs.Whole.{walked, ahead, firstSpot, Valid, Stepped}
+use Rattle.inside_walk.specs.Whole.{walked}
+use Rattle.inside_walk.specs.WholeWalk.{ahead, firstSpot, Valid, Stepped}
 use Rattle.inside_walk.specs.WholeLaws.{ahead-first, first-spot-valid}
 
 -- the volume's v bytes lie in the image; the header file, at f, lies in the volume, and its first section in the header file
@@ -37,10 +39,10 @@ module _ (xs : List ℕ) (v f : ℕ) where
 
   module _ (l : List Item) (s : Spot) (t : Move) (p : Passing xs v f l s) (step : Stepped xs v s t) where
     -- at the end all are passed
-    pub passing-end : t .item .kind ≡ 0 → walked xs v f ≡ l
+    pub passing-end : t .item .kind ≡ endKind → walked xs v f ≡ l
     passing-end z = p .all ∙ rw (step .ends z) (append-nil l)
 
     -- else one more is
-    pub passing-next : (t .item .kind ≡ 0 → ⊥) → Passing xs v f (l ++ (t .item ∷ [])) (t .next)
+    pub passing-next : (t .item .kind ≡ endKind → ⊥) → Passing xs v f (l ++ (t .item ∷ [])) (t .next)
     passing-next is =
         record { valid = step .valid; all = p .all ∙ rw (step .goes is) (sym (append-assoc l (t .item ∷ []) (ahead xs v (t .next)))) }

@@ -11,49 +11,51 @@ use native.Mathlib.Decide.{ℕ-discrete}
 use borrow.Author.Tests.{eqb-true, eq-eqb, ne-eqb}
 use lib.Dec.{eqb}
 use Rattle.facts.specs.Fact.{Holds}
-use Rattle.facts.specs.Rules.{by-cond}
+use Rattle.facts.specs.RulesLaws.{by-cond}
 use Rattle.words.specs.Le.{Alike}
-use Rattle.items.specs.Items.{each}
+use Rattle.items.specs.Items.{each, wordKind}
 use Rattle.items.specs.ItemsLaws.{each-fork}
-use Rattle.items.specs.Judged.{unbroken, Kept}
+use Rattle.items.specs.Judged.{unbroken}
+use Rattle.items.specs.Shapes.{Kept}
 use Rattle.items.specs.KeptLaws.{kept-left, kept-right}
 use Rattle.inside_files.specs.declared.Part.{Part}
 use Rattle.inside_files.specs.declared.Place.{Place}
-use Rattle.inside_files.specs.Parts.{firstPlace}
+use Rattle.inside_files.specs.Parts.{firstPlace, brokenPart, sectionPart}
 use Rattle.inside_files.specs.Parts as files
 use Rattle.inside_files.specs.PartsEach.{Each}
 use Rattle.inside_files.specs.PartsFrame.{Seen, first-cong}
 use Rattle.inside_files.specs.PartsFrame as files-frame
 use Rattle.inside_rows.specs.declared.Module.{Module}
-use Rattle.inside_rows.specs.Rows.{noModule}
+use Rattle.inside_rows.specs.Rows.{noModule, badKind}
 use Rattle.inside_modules.specs.Modules.{moduleOf}
 use Rattle.inside_modules.specs.Bounds.{Empty, Lies}
 use Rattle.inside_modules.specs.Frame.{module-cong}
 use Rattle.inside_modules.specs.Frame as modules
 use Rattle.inside_blocks.specs.Blocks.{items}
-use Rattle.inside_blocks.specs.Blocks as blocks
+use Rattle.inside_blocks.specs.BlocksWalk as blocksWalk
 use Rattle.inside_blocks.specs.BlocksFrame.{items-cong, items-seen, rows-seen}
 use Rattle.inside_blocks.specs.BlocksFrame as blocks-frame
 use Rattle.inside_walk.specs.declared.Spot.{Spot}
-use Rattle.inside_walk.specs.Whole.{moduleIn, itemFor, spread, walked, ahead}
+use Rattle.inside_walk.specs.Whole.{moduleIn, itemFor, spread, walked}
+use Rattle.inside_walk.specs.WholeWalk.{ahead}
 use Rattle.inside_walk.specs.WholeAbove.{module-in-lies}
 
 module _ (a b : List ℕ) where
   -- a part whose item is kept and not broken: what is looked at of it is kept, and so isn't its module broken
   own-seen : (p : Part) (m : Module) → Holds (unbroken (itemFor p m))
-      → ((itemFor p m .kind ≡ 2 → ⊥) → Alike a b (itemFor p m .at) (itemFor p m .len))
-      → Seen a b p × (p .kind ≡ 2 → m .kind ≡ 25 → ⊥)
+      → ((itemFor p m .kind ≡ wordKind → ⊥) → Alike a b (itemFor p m .at) (itemFor p m .len))
+      → Seen a b p × (p .kind ≡ sectionPart → m .kind ≡ badKind → ⊥)
   unfolding itemFor
   own-seen p m ok kept =
-      elim (ℕ-discrete (p .kind) 2) [
+      elim (ℕ-discrete (p .kind) sectionPart) [
         | no k ↦
-            let whole : p .kind ≡ 5 → ⊥ = rw (ne-eqb (p .kind) 2 k) at ok in
-            let same : (p .kind ≡ 2 → ⊥) → Alike a b (p .at) (p .len) = rw (ne-eqb (p .kind) 2 k) at kept in
+            let whole : p .kind ≡ brokenPart → ⊥ = rw (ne-eqb (p .kind) sectionPart k) at ok in
+            let same : (p .kind ≡ sectionPart → ⊥) → Alike a b (p .at) (p .len) = rw (ne-eqb (p .kind) sectionPart k) at kept in
             (record { whole = whole; header = λ e. same k; section = λ e. absurd (k e) }, λ e. absurd (k e))
-        | yes k ↦ elim (ℕ-discrete (m .kind) 25) [
-          | yes l ↦ absurd ((rw (eq-eqb (p .kind) 2 k, eq-eqb (m .kind) 25 l) at ok) refl)
+        | yes k ↦ elim (ℕ-discrete (m .kind) badKind) [
+          | yes l ↦ absurd ((rw (eq-eqb (p .kind) sectionPart k, eq-eqb (m .kind) badKind l) at ok) refl)
           | no l ↦
-              let same : (_≡_ {A = ℕ} 1 2 → ⊥) → Alike a b (p .at) 4 = rw (eq-eqb (p .kind) 2 k, ne-eqb (m .kind) 25 l) at kept in (
+              let same : (_≡_ {A = ℕ} 1 2 → ⊥) → Alike a b (p .at) 4 = rw (eq-eqb (p .kind) sectionPart k, ne-eqb (m .kind) badKind l) at kept in (
                 record { whole = λ e. omega arith; header = λ e. absurd (omega arith); section = λ e. same (λ z. omega arith) },
                 λ e. l,
               )
@@ -61,27 +63,27 @@ module _ (a b : List ℕ) where
       ]
 
   -- its module, and the items of that, are the same
-  module-same : (p : Part) → (p .kind ≡ 2 → moduleIn a p .kind ≡ 25 → ⊥) → Kept a b (items a (moduleIn a p))
+  module-same : (p : Part) → (p .kind ≡ sectionPart → moduleIn a p .kind ≡ badKind → ⊥) → Kept a b (items a (moduleIn a p))
       → (moduleIn a p ≡ moduleIn b p) × (items a (moduleIn a p) ≡ items b (moduleIn a p))
   unfolding moduleIn
   module-same p ok kept =
       let lo = p .at + 4 in
       let hi = p .at + p .len in
       let seen : modules.Seen a b (moduleIn a p) = items-seen a b lo hi (moduleIn a p) bounded whole kept in (
-        same (eqb (p .kind) 2) whole seen,
+        same (eqb (p .kind) sectionPart) whole seen,
         items-cong a b (moduleIn a p) (rows-seen a b lo hi (moduleIn a p) bounded seen) kept,
       )
     where
       bounded : Empty (moduleIn a p) ⊎ Lies (p .at + 4) (p .at + p .len) (moduleIn a p)
       bounded = elim (module-in-lies a p) [ inl e ↦ inl e | inr l ↦ inr (l .1) ]
 
-      whole : moduleIn a p .kind ≡ 25 → ⊥
+      whole : moduleIn a p .kind ≡ badKind → ⊥
       whole =
-          by-cond (λ (m : Module). (p .kind ≡ 2 → m .kind ≡ 25 → ⊥) → m .kind ≡ 25 → ⊥) (eqb (p .kind) 2) _ _
-          (λ e bad. bad (eqb-true (p .kind) 2 e)) (λ e bad z. omega arith) ok
+          by-cond (λ (m : Module). (p .kind ≡ sectionPart → m .kind ≡ badKind → ⊥) → m .kind ≡ badKind → ⊥) (eqb (p .kind) sectionPart) _ _
+          (λ e bad. bad (eqb-true (p .kind) sectionPart e)) (λ e bad z. omega arith) ok
 
       same : (t : Bool) → let m = cond t (moduleOf a (p .sort) (p .at + 4) (p .at + p .len)) noModule in
-          (m .kind ≡ 25 → ⊥) → modules.Seen a b m → m ≡ cond t (moduleOf b (p .sort) (p .at + 4) (p .at + p .len)) noModule
+          (m .kind ≡ badKind → ⊥) → modules.Seen a b m → m ≡ cond t (moduleOf b (p .sort) (p .at + 4) (p .at + p .len)) noModule
       same true = module-cong a b (p .sort) (p .at + 4) (p .at + p .len)
       same false = λ e seen. refl
 
@@ -108,7 +110,7 @@ pub ahead-cong : (a b : List ℕ) (v : ℕ) (s : Spot) → Holds (each unbroken 
     → Alike a b (s .c .at) (2 * s .c .left) → Kept a b (ahead a v s) → ahead a v s ≡ ahead b v s
 unfolding ahead
 ahead-cong a b v s ok rows entries kept =
-    let l = blocks.ahead a (s .m) (s .c) in
+    let l = blocksWalk.ahead a (s .m) (s .c) in
     let k = spread a (files.ahead a v (s .place)) in
     rw (
       blocks-frame.ahead-cong a b (s .m) rows (s .c) entries (kept-left a b l k kept),

@@ -8,7 +8,8 @@ ghost use mathlib.Core.Path.{_≡_};
 ghost use Prim.Native.Nat.{_+_, _≤_, _<_};
 ghost use lib.ListN.{length};
 ghost use Rattle.inside_walk.specs.Entries.{countOf, pastOf};
-ghost use Rattle.inside_walk.specs.Whole.{moduleIn, itemFor, firstSpot, Valid, Stepped, Ended};
+ghost use Rattle.inside_walk.specs.Whole.{moduleIn, itemFor};
+ghost use Rattle.inside_walk.specs.WholeWalk.{firstSpot, Valid, Stepped, Ended};
 
 // Where the walk stands: among the files, and in a module.
 pub struct Spot {
@@ -27,7 +28,7 @@ pub fn module_in(image: &[u8], p: Part) -> Module
     requires { ⌜ (length (now image) ≤ 16777216) × (p .kind ≡ 2 → (4 ≤ p .len) × (p .at + p .len ≤ length (now image))) ⌝ }
     ensures { λ r. ⌜ r ≡ moduleIn (now (image .entry)) p ⌝ }
 {
-    if p.kind == 2 {
+    if p.kind == inside_files::SECTION {
         let lo = p.at + 4;
         let hi = p.at + p.len;
         return inside_modules::module_of(image, p.sort, lo, hi);
@@ -39,16 +40,16 @@ fn item_for(p: Part, m: Module) -> Item
     requires { ⌜ p .at + p .len ≤ 33554432 ⌝ }
     ensures { λ r. ⌜ (r ≡ itemFor p m) × ((r .kind ≡ 0) → p .kind ≡ 0) × (r .at + r .len < 1099511627776) ⌝ }
 {
-    if p.kind == 2 {
-        if m.kind == 25 {
+    if p.kind == inside_files::SECTION {
+        if m.kind == inside_rows::BAD {
             return Item {
-                kind: 5,
+                kind: items::BROKEN,
                 at: p.at,
                 len: 4,
             };
         }
         return Item {
-            kind: 1,
+            kind: items::KEPT,
             at: p.at,
             len: 4,
         };
@@ -83,7 +84,7 @@ fn part_step(image: &[u8], v: usize, s: Spot, x: Item) -> Move
     let u = inside_files::step(image, v, place);
     let part = u.part;
     let on = u.next;
-    if part.kind == 0 {
+    if part.kind == inside_files::NO_PART {
         return Move { item: x, next: s };
     }
     let m = module_in(image, part);
@@ -108,7 +109,7 @@ pub fn step(image: &[u8], v: usize, s: Spot) -> Move
     let t = inside_blocks::step(image, m, s.c);
     let item = t.item;
     let c = t.next;
-    if item.kind != 0 {
+    if item.kind != items::END {
         return Move {
             item,
             next: Spot { place, m, c },

@@ -10,29 +10,61 @@ use Rattle.facts.specs.Fact.{Fact, _≤?_, _≡?_, deny, _and_, _or_}
 use Rattle.moves.specs.Moves.{Words}
 use Rattle.items.specs.declared.Item.{Item}
 
+-- ---- the kinds of items, by their numbers
+
+-- nothing is left
+abbrev pub endKind : ℕ
+endKind = 0
+
+-- bytes that are looked at
+abbrev pub keptKind : ℕ
+keptKind = 1
+
+-- a word that moves
+abbrev pub wordKind : ℕ
+wordKind = 2
+
+-- an entry that is passed over
+abbrev pub skipKind : ℕ
+skipKind = 3
+
+-- an entry of another type
+abbrev pub alienKind : ℕ
+alienKind = 4
+
+-- what isn't there as it should be
+abbrev pub brokenKind : ℕ
+brokenKind = 5
+
+-- a word outside its module
+abbrev pub lostKind : ℕ
+lostKind = 6
+
+-- ---- the items
+
 -- bytes that are looked at: a header, a relocation block, the free end
 abbrev pub keep : ℕ → ℕ → Item
-keep at len = record { kind = 1; at = at; len = len }
+keep at len = record { kind = keptKind; at = at; len = len }
 
 -- a word that moves
 abbrev pub word : ℕ → ℕ → Item
-word at len = record { kind = 2; at = at; len = len }
+word at len = record { kind = wordKind; at = at; len = len }
 
 -- an entry of type 0
 abbrev pub skip : Item
-skip = record { kind = 3; at = 0; len = 0 }
+skip = record { kind = skipKind; at = 0; len = 0 }
 
 -- an entry of a type that isn't known
 abbrev pub alien : Item
-alien = record { kind = 4; at = 0; len = 0 }
+alien = record { kind = alienKind; at = 0; len = 0 }
 
 -- no file, section, module or block stands where one should; len bytes there were looked at
 abbrev pub broken : ℕ → ℕ → Item
-broken at len = record { kind = 5; at = at; len = len }
+broken at len = record { kind = brokenKind; at = at; len = len }
 
 -- a word that lies outside its module
 abbrev pub lost : Item
-lost = record { kind = 6; at = 0; len = 0 }
+lost = record { kind = lostKind; at = 0; len = 0 }
 
 -- the check p of each item
 unfoldable pub each : (Item → Fact) → List Item → Fact
@@ -41,7 +73,7 @@ each p (x ∷ l) = p x and each p l
 
 -- x and y share no byte, or neither is a word
 abbrev pub apart : Item → Item → Fact
-apart x y = (deny (x .kind ≡? 2) and deny (y .kind ≡? 2)) or x .at + x .len ≤? y .at or y .at + y .len ≤? x .at
+apart x y = (deny (x .kind ≡? wordKind) and deny (y .kind ≡? wordKind)) or x .at + x .len ≤? y .at or y .at + y .len ≤? x .at
 
 -- each of l is apart from every earlier one, those of `before` standing before l
 unfoldable pub apartFrom : List Item → List Item → Fact
@@ -50,12 +82,12 @@ apartFrom before (x ∷ l) = each (apart x) before and apartFrom (before ++ (x �
 
 -- a word of 4 or 8 bytes ends by n; what is no word isn't judged
 abbrev pub inside : ℕ → Item → Fact
-inside n x = deny (x .kind ≡? 2) or (x .at + x .len ≤? n and (x .len ≡? 4 or x .len ≡? 8))
+inside n x = deny (x .kind ≡? wordKind) or (x .at + x .len ≤? n and (x .len ≡? 4 or x .len ≡? 8))
 
 -- the words alone
 unfoldable pub wordsIn : List Item → List Item
 wordsIn [] = []
-wordsIn (x ∷ l) = cond (eqb (x .kind) 2) (x ∷ wordsIn l) (wordsIn l)
+wordsIn (x ∷ l) = cond (eqb (x .kind) wordKind) (x ∷ wordsIn l) (wordsIn l)
 
 abbrev pub nth : List Item → ℕ → Item
 nth l i = getD l i skip

@@ -12,9 +12,10 @@ use Rattle.facts.specs.Fact.{_≡?_, _or_, Holds}
 use Rattle.words.specs.Le.{Alike}
 use Rattle.moves.specs.Moves.{Beside}
 use Rattle.items.specs.declared.Item.{Item}
-use Rattle.items.specs.Items.{each, apart, apartFrom, wordsIn, nth, listed}
+use Rattle.items.specs.Items.{each, apart, apartFrom, wordsIn, nth, listed, wordKind}
 use Rattle.items.specs.ItemsLaws.{each-so, each-join, each-last, apart-turned, apart-across}
-use Rattle.items.specs.Judged.{off, sound, sized, Kept}
+use Rattle.items.specs.Judged.{off, sound}
+use Rattle.items.specs.Shapes.{sized, Kept}
 use Rattle.items.specs.Listed.{each-nth}
 
 -- ---- two lists after each other
@@ -39,19 +40,19 @@ apart-first x before [] far h = h
 apart-first x before (y ∷ l) (now, far) (h, t) = ((now, h), apart-first x (before ++ (y ∷ [])) l far t)
 
 -- what is no word is apart from all, those before it, itself, and those after it
-apart-all : (before l : List Item) → Holds (apartFrom before l) → Holds (each (λ x. x .kind ≡? 2 or each (apart x) (before ++ l)) l)
+apart-all : (before l : List Item) → Holds (apartFrom before l) → Holds (each (λ x. x .kind ≡? wordKind or each (apart x) (before ++ l)) l)
 unfolding each apartFrom
 apart-all before [] h = h
 apart-all before (x ∷ l) (h, t) =
     let e : (before ++ (x ∷ [])) ++ l ≡ before ++ (x ∷ l) = append-assoc before (x ∷ []) l in
-    (now (ℕ-discrete (x .kind) 2), rw e at (apart-all (before ++ (x ∷ [])) l t))
+    (now (ℕ-discrete (x .kind) wordKind), rw e at (apart-all (before ++ (x ∷ [])) l t))
   where
     after : Holds (each (apart x) l)
     after =
         each-so (λ y. apart y x) (apart x) l (λ y k. apart-turned x y k)
         (each-last (λ x. each (λ y. apart y x) l) before x (apart-across (before ++ (x ∷ [])) l t) .1)
 
-    now : Dec (x .kind ≡ 2) → Holds (x .kind ≡? 2 or each (apart x) (before ++ (x ∷ l)))
+    now : Dec (x .kind ≡ wordKind) → Holds (x .kind ≡? wordKind or each (apart x) (before ++ (x ∷ l)))
     now (yes e) = inl e
     now (no e) = inr (each-join (apart x) before (x ∷ l) h (inl (e, e), after))
 
@@ -61,7 +62,7 @@ module _ (a b : List ℕ) (all : List Item) (c z : ℕ)
     (but : (k : ℕ) → Beside (listed (wordsIn all)) (length (wordsIn all)) k → (k < c) ⊎ (c + z ≤ k) → getD a k 0 ≡ getD b k 0)
   where
     -- an item that is no word, is apart from all words and off the region
-    alike-off : (x : Item) → (x .kind ≡ 2 → ⊥) → Holds (off c z x) → Holds (each (apart x) all) → Alike a b (x .at) (x .len)
+    alike-off : (x : Item) → (x .kind ≡ wordKind → ⊥) → Holds (off c z x) → Holds (each (apart x) all) → Alike a b (x .at) (x .len)
     alike-off x other out far =
         record { same = λ j h. but (x .at + j) (λ i n. beside j h i (each-nth (apart x) all i far n)) (side j h out) }
       where
@@ -69,19 +70,19 @@ module _ (a b : List ℕ) (all : List Item) (c z : ℕ)
         side j h (inl o) = inl (omega arith)
         side j h (inr o) = inr (omega arith)
 
-        beside : (j : ℕ) → j < x .len → (i : ℕ) → Holds (apart x (nth (wordsIn all) i)) × (nth (wordsIn all) i .kind ≡ 2)
+        beside : (j : ℕ) → j < x .len → (i : ℕ) → Holds (apart x (nth (wordsIn all) i)) × (nth (wordsIn all) i .kind ≡ wordKind)
             → (x .at + j < nth (wordsIn all) i .at) ⊎ (nth (wordsIn all) i .at + nth (wordsIn all) i .len ≤ x .at + j)
         beside j h i (inl n, two) = absurd (n .1 two)
         beside j h i (inr (inl n), two) = inl (omega arith)
         beside j h i (inr (inr n), two) = inr (omega arith)
 
     kept-apart : (l : List Item) → Holds (each (sound c z) l) → Holds (each sized l)
-        → Holds (each (λ x. x .kind ≡? 2 or each (apart x) all) l) → Kept a b l
+        → Holds (each (λ x. x .kind ≡? wordKind or each (apart x) all) l) → Kept a b l
     unfolding each Kept
     kept-apart [] ok size far = tt
     kept-apart (x ∷ l) (ok, oks) (size, sizes) (far, fars) = ((λ other. now other far ok size), kept-apart l oks sizes fars)
       where
-        now : (x .kind ≡ 2 → ⊥) → Holds (x .kind ≡? 2 or each (apart x) all) → Holds (sound c z x) → Holds (sized x)
+        now : (x .kind ≡ wordKind → ⊥) → Holds (x .kind ≡? wordKind or each (apart x) all) → Holds (sound c z x) → Holds (sized x)
             → Alike a b (x .at) (x .len)
         now other (inl e) ok size = absurd (other e)
         now other (inr e) (there, inl n) (inl s) = absurd (n s)

@@ -11,39 +11,39 @@ use lib.ListN.{length, getD}
 use Rattle.facts.specs.Fact.{Fact, Holds}
 use Rattle.moves.specs.Moves.{Spread}
 use Rattle.items.specs.declared.Item.{Item}
-use Rattle.items.specs.Items.{each, apart, apartFrom, inside, wordsIn, nth, listed}
+use Rattle.items.specs.Items.{each, apart, apartFrom, inside, wordsIn, nth, listed, wordKind}
 use Rattle.items.specs.ItemsLaws.{each-last}
 
 pub words-none : length (wordsIn []) ≡ 0
 unfolding wordsIn
 words-none = refl
 
-pub words-more : (x : Item) (l : List Item) → x .kind ≡ 2 → wordsIn (x ∷ l) ≡ x ∷ wordsIn l
+pub words-more : (x : Item) (l : List Item) → x .kind ≡ wordKind → wordsIn (x ∷ l) ≡ x ∷ wordsIn l
 unfolding wordsIn
-words-more x l k = rw (eq-eqb (x .kind) 2 k)
+words-more x l k = rw (eq-eqb (x .kind) wordKind k)
 
-pub words-same : (x : Item) (l : List Item) → (x .kind ≡ 2 → ⊥) → wordsIn (x ∷ l) ≡ wordsIn l
+pub words-same : (x : Item) (l : List Item) → (x .kind ≡ wordKind → ⊥) → wordsIn (x ∷ l) ≡ wordsIn l
 unfolding wordsIn
-words-same x l k = rw (ne-eqb (x .kind) 2 k)
+words-same x l k = rw (ne-eqb (x .kind) wordKind k)
 
 pub words-join : (l k : List Item) → wordsIn (l ++ k) ≡ wordsIn l ++ wordsIn k
 unfolding wordsIn
 words-join [] k = refl
 words-join (x ∷ l) k =
-    elim (ℕ-discrete (x .kind) 2) [
-      | yes e ↦ rw (eq-eqb (x .kind) 2 e, words-join l k)
-      | no e ↦ rw (ne-eqb (x .kind) 2 e, words-join l k)
+    elim (ℕ-discrete (x .kind) wordKind) [
+      | yes e ↦ rw (eq-eqb (x .kind) wordKind e, words-join l k)
+      | no e ↦ rw (ne-eqb (x .kind) wordKind e, words-join l k)
     ]
 
 pub each-nth : (p : Item → Fact) (l : List Item) (i : ℕ) → Holds (each p l) → i < length (wordsIn l)
-    → Holds (p (nth (wordsIn l) i)) × (nth (wordsIn l) i .kind ≡ 2)
+    → Holds (p (nth (wordsIn l) i)) × (nth (wordsIn l) i .kind ≡ wordKind)
 unfolding each
 each-nth p [] i h k = absurd (omega (arith, words-none))
-each-nth p (x ∷ l) i (h, t) k = go i k (ℕ-discrete (x .kind) 2) (λ j. each-nth p l j t)
+each-nth p (x ∷ l) i (h, t) k = go i k (ℕ-discrete (x .kind) wordKind) (λ j. each-nth p l j t)
   where
-    go : (i : ℕ) → i < length (wordsIn (x ∷ l)) → Dec (x .kind ≡ 2)
-        → ((j : ℕ) → j < length (wordsIn l) → Holds (p (nth (wordsIn l) j)) × (nth (wordsIn l) j .kind ≡ 2))
-        → Holds (p (nth (wordsIn (x ∷ l)) i)) × (nth (wordsIn (x ∷ l)) i .kind ≡ 2)
+    go : (i : ℕ) → i < length (wordsIn (x ∷ l)) → Dec (x .kind ≡ wordKind)
+        → ((j : ℕ) → j < length (wordsIn l) → Holds (p (nth (wordsIn l) j)) × (nth (wordsIn l) j .kind ≡ wordKind))
+        → Holds (p (nth (wordsIn (x ∷ l)) i)) × (nth (wordsIn (x ∷ l)) i .kind ≡ wordKind)
     go i k (no n) rest = rw (words-same x l n) (rest i (rw (words-same x l n) at k))
     go zero k (yes n) rest = rw (words-more x l n) (h, n)
     go (suc i) k (yes n) rest =
@@ -55,9 +55,9 @@ earlier : (before l : List Item) → Holds (apartFrom before l) → (j : ℕ) �
     → Holds (each (apart (nth (wordsIn l) j)) before) × ((i : ℕ) → i < j → Holds (apart (nth (wordsIn l) j) (nth (wordsIn l) i)))
 unfolding apartFrom
 earlier before [] h j k = absurd (omega (arith, words-none))
-earlier before (x ∷ l) (h, t) j k = go j k (ℕ-discrete (x .kind) 2) (earlier (before ++ (x ∷ [])) l t)
+earlier before (x ∷ l) (h, t) j k = go j k (ℕ-discrete (x .kind) wordKind) (earlier (before ++ (x ∷ [])) l t)
   where
-    go : (j : ℕ) → j < length (wordsIn (x ∷ l)) → Dec (x .kind ≡ 2)
+    go : (j : ℕ) → j < length (wordsIn (x ∷ l)) → Dec (x .kind ≡ wordKind)
         → ((j : ℕ) → j < length (wordsIn l)
         → Holds (each (apart (nth (wordsIn l) j)) (before ++ (x ∷ [])))
         × ((i : ℕ) → i < j → Holds (apart (nth (wordsIn l) j) (nth (wordsIn l) i))))
@@ -82,7 +82,7 @@ earlier before (x ∷ l) (h, t) j k = go j k (ℕ-discrete (x .kind) 2) (earlier
 pub spread : (xs : List ℕ) (l : List Item) → Holds (each (inside (length xs)) l) → Holds (apartFrom [] l) → Spread xs (listed (wordsIn l))
 spread xs l within separate = record { within = in-xs; apart = sep }
   where
-    word : (i : ℕ) → i < length (wordsIn l) → Holds (inside (length xs) (nth (wordsIn l) i)) × (nth (wordsIn l) i .kind ≡ 2)
+    word : (i : ℕ) → i < length (wordsIn l) → Holds (inside (length xs) (nth (wordsIn l) i)) × (nth (wordsIn l) i .kind ≡ wordKind)
     word i h = each-nth (inside (length xs)) l i within h
 
     in-xs : (i : ℕ) → i < length (wordsIn l) → nth (wordsIn l) i .at + nth (wordsIn l) i .len ≤ length xs

@@ -5,9 +5,9 @@ use mathlib.Core.List.{List, _∷_}
 use Rattle.items.specs.declared.Item.{Item}
 use Rattle.items.specs.Items.{word}
 use Rattle.inside_judge.specs.Rules.{patchItems}
-use Rattle.reading_rules.specs.declared.Reading.{Reading}
+use Rattle.answers.specs.declared.Reading.{Reading}
 use Rattle.reading_rules.specs.Reading.{entriesAt, wordAt}
-use Rattle.move_image.specs.Moves.{Words}
+use Rattle.moves.specs.Moves.{Words}
 
 abbrev pub fixedAt : List ℕ → Reading → ℕ → ℕ
 fixedAt xs r zero = r .H + 28

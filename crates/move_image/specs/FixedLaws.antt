@@ -9,11 +9,11 @@ use lib.ListN.{length, getD}
 use Rattle.words.specs.Le.{Alike}
 use Rattle.table.specs.PassesLaws.{place-cong}
 use Rattle.table.specs.declared.Place.{Place}
-use Rattle.reading_rules.specs.declared.Reading.{Reading}
+use Rattle.answers.specs.declared.Reading.{Reading}
 use Rattle.reading_rules.specs.Reading.{entriesAt, wordAt}
 use Rattle.reading_rules.specs.Guarantee.{Guaranteed}
-use Rattle.move_image.specs.Moves.{movedTo, Beside, Spread}
-use Rattle.move_image.specs.MovesLaws.{length-moved, moved-beside}
+use Rattle.moves.specs.Moves.{movedTo, Beside, Spread}
+use Rattle.moves.specs.MovesLaws.{length-moved, moved-beside}
 use Rattle.move_image.specs.Fixed.{fixedAt, fixedOf}
 
 module _ (xs : List ℕ) (r : Reading) (g : Guaranteed xs r) where

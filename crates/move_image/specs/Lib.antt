@@ -1,5 +1,3 @@
-pub mod Moves
-pub mod MovesLaws
 pub mod Fixed
 pub mod FixedLaws
 pub mod Moving

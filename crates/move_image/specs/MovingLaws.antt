@@ -22,14 +22,14 @@ use Rattle.inside_judge.specs.Rules.{patchItems}
 use Rattle.inside_judge.specs.RulesLaws.{patches-count, patches-words, patches-nth}
 use Rattle.move_modules.specs.Relocate.{shift, Movable}
 use Rattle.move_modules.specs.MovableLaws.{movable}
-use Rattle.reading_rules.specs.declared.Reading.{Reading}
+use Rattle.answers.specs.declared.Reading.{Reading}
 use Rattle.reading_rules.specs.Reading.{entriesAt, fileAt, reading}
 use Rattle.reading_rules.specs.Guarantee.{Guaranteed, guaranteed}
 use Rattle.reading_rules.specs.Words.{met, wordsOf}
 use Rattle.reading_rules.specs.WordsLaws.{widths, met-apart}
 use Rattle.reading_rules.specs.FrameBut.{AlikeBut, range, walked-but, words-but}
-use Rattle.move_image.specs.Moves.{difference, movedTo, moved, Beside}
-use Rattle.move_image.specs.MovesLaws.{length-moved, moved-beside, moved-cong}
+use Rattle.moves.specs.Moves.{difference, movedTo, moved, Beside}
+use Rattle.moves.specs.MovesLaws.{length-moved, moved-beside, moved-cong}
 use Rattle.move_image.specs.Fixed.{fixedAt, fixedOf, fixed}
 
 -- what the rules give the mover holds of every image that agrees with an accepted one but for words and settings

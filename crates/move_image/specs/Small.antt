@@ -22,11 +22,12 @@ use Rattle.inside_blocks.specs.Blocks.{headItem, headsFrom, headCount, wordOf, 
 use Rattle.inside_walk.specs.Whole.{moduleIn, itemFor, spread, walked}
 use Rattle.inside_judge.specs.Rules.{patchFrom}
 use Rattle.reading_rules.specs.Words.{met}
-use Rattle.reading_rules.specs.declared.Reading.{Reading}
+use Rattle.answers.specs.declared.Reading.{Reading}
 use Rattle.reading_rules.specs.Reading.{reading}
 use Rattle.reading_rules.specs.Small.{small, settingBytes, smallReading, small-reads}
-use Rattle.move_image.specs.Moves.{difference, movedTo}
-use Rattle.move_image.specs.Moving.{acceptedMove, moveTo, movedImage}
+use Rattle.moves.specs.Moves.{difference, movedTo}
+use Rattle.move_image.specs.Moving.{moveTo, movedImage}
+use Rattle.move_answer.specs.MoveAnswer.{acceptedMove}
 
 abbrev maker : List ℕ
 maker = small 0xFFF80000 0xFFF80040 (settingBytes 0 1)

@@ -1,33 +1,17 @@
 // Document 01, "Moving": the words of a move, and how far it goes. The release calls these.
-use reading_rules::Reading;
+use answers::Moved;
+use answers::Reading;
 ghost use mathlib.Core.Path.{_≡_};
 ghost use Prim.Native.Nat.{_+_, _*_, _^_, _≤_, _<_};
 ghost use lib.IntN.{pos, _-ℤ_};
 ghost use lib.ListN.{length};
 ghost use Rattle.reading_rules.specs.Guarantee.{Guaranteed};
-ghost use Rattle.move_image.specs.Moves.{difference, moved};
+ghost use Rattle.moves.specs.Moves.{difference, moved};
 ghost use Rattle.reading_rules.specs.Words.{wordsOf};
 ghost use Rattle.move_modules.specs.Relocate.{shift};
 ghost use Rattle.move_image.specs.Fixed.{fixedAt, fixedOf};
-ghost use Rattle.move_image.specs.Moving.{moveTo, refusedMove, acceptedMove, Magnitude};
-
-// The answer of a release: number 0 and the move, new base minus old; or the refusal's number and index.
-pub struct Moved {
-    pub number: u32,
-    pub index: usize,
-    pub distance: i64,
-}
-
-// A refusal.
-pub fn refused(number: u32, index: usize) -> Moved
-    ensures { λ r. ⌜ r ≡ refusedMove number index ⌝ }
-{
-    Moved {
-        number,
-        index,
-        distance: 0,
-    }
-}
+ghost use Rattle.move_image.specs.Moving.{moveTo};
+ghost use Rattle.move_answer.specs.MoveAnswer.{refusedMove, acceptedMove, Magnitude};
 
 // Where the i-th of the tables' words stands: the base word, then each patch word.
 fn word_place(image: &[u8], r: Reading, i: usize) -> usize
@@ -61,36 +45,6 @@ fn move_words(image: &mut [u8], r: Reading, four: u32, eight: u64)
     move_fixed(image, r, four);
     let v = words::le64(image, 32);
     move_modules::words(image, v, r.H - 28, four, eight);
-}
-
-// new minus old.
-fn distance(old: u64, new: u64) -> i64
-    requires { ⌜ (old ≤ 2 ^ 32) × (new ≤ 2 ^ 32) ⌝ }
-    ensures { λ r. ⌜ r ≡ pos new -ℤ pos old ⌝ }
-{
-    new as i64 - old as i64
-}
-
-// The answer where an image that reads so goes to a base.
-pub fn accepted(r: Reading, base: u64) -> Moved
-    requires { ⌜ (r .base ≤ 2 ^ 32) × (base ≤ 2 ^ 32) ⌝ }
-    ensures { λ m. ⌜ m ≡ acceptedMove r base ⌝ }
-{
-    Moved {
-        number: 0,
-        index: 0,
-        distance: distance(r.base, base),
-    }
-}
-
-// How far a move goes, up or down.
-pub fn magnitude(distance: i64) -> u64
-    ensures { λ r. ⌜ Magnitude distance r ⌝ }
-{
-    if distance < 0 {
-        return (-1 - distance) as u64 + 1;
-    }
-    distance as u64
 }
 
 // new minus old, modulo 2^32.

@@ -14,39 +14,39 @@ use Rattle.words.specs.Le.{Alike}
 use Rattle.words.specs.Put.{add}
 use Rattle.words.specs.PutLaws.{length-add, add-below, add-above}
 use Rattle.items.specs.declared.Item.{Item}
-use Rattle.items.specs.Items.{each}
-use Rattle.items.specs.Judged.{Kept}
+use Rattle.items.specs.Items.{each, wordKind}
+use Rattle.items.specs.Shapes.{Kept}
 use Rattle.move_modules.specs.Relocate.{shift, addItem, movedBy, clear}
 
 pub length-addItem : (xs : List ℕ) (x : Item) (d : ℕ → ℕ) → length (addItem xs x d) ≡ length xs
 unfolding addItem
 length-addItem xs x d =
-    elim (ℕ-discrete (x .kind) 2) [
-      | yes h ↦ rw (eq-eqb (x .kind) 2 h) (length-add (x .len) xs (x .at) (d (x .len)))
-      | no h ↦ rw (ne-eqb (x .kind) 2 h)
+    elim (ℕ-discrete (x .kind) wordKind) [
+      | yes h ↦ rw (eq-eqb (x .kind) wordKind h) (length-add (x .len) xs (x .at) (d (x .len)))
+      | no h ↦ rw (ne-eqb (x .kind) wordKind h)
     ]
 
 -- a word of 4 bytes, and one of 8
-pub add-four : (xs : List ℕ) (x : Item) (four eight : ℕ) → x .kind ≡ 2 → x .len ≡ 4
+pub add-four : (xs : List ℕ) (x : Item) (four eight : ℕ) → x .kind ≡ wordKind → x .len ≡ 4
     → addItem xs x (shift four eight) ≡ add 4 xs (x .at) four
 unfolding addItem
-add-four xs x four eight k e = rw (eq-eqb (x .kind) 2 k, e)
+add-four xs x four eight k e = rw (eq-eqb (x .kind) wordKind k, e)
 
-pub add-eight : (xs : List ℕ) (x : Item) (four eight : ℕ) → x .kind ≡ 2 → x .len ≡ 8
+pub add-eight : (xs : List ℕ) (x : Item) (four eight : ℕ) → x .kind ≡ wordKind → x .len ≡ 8
     → addItem xs x (shift four eight) ≡ add 8 xs (x .at) eight
 unfolding addItem
-add-eight xs x four eight k e = rw (eq-eqb (x .kind) 2 k, e)
+add-eight xs x four eight k e = rw (eq-eqb (x .kind) wordKind k, e)
 
 -- bytes that it has none of keep their values
-alike-add : (a b : List ℕ) (x y : Item) (d : ℕ → ℕ) → (y .kind ≡ 2 → ⊥) → Holds (clear x y) → Alike a b (y .at) (y .len)
+alike-add : (a b : List ℕ) (x y : Item) (d : ℕ → ℕ) → (y .kind ≡ wordKind → ⊥) → Holds (clear x y) → Alike a b (y .at) (y .len)
     → Alike a (addItem b x d) (y .at) (y .len)
 unfolding addItem
 alike-add a b x y d other (inl e) same = absurd (other e)
-alike-add a b x y d other (inr (inl h)) same = rw (ne-eqb (x .kind) 2 h) same
+alike-add a b x y d other (inr (inl h)) same = rw (ne-eqb (x .kind) wordKind h) same
 alike-add a b x y d other (inr (inr out)) same =
-    elim (ℕ-discrete (x .kind) 2) [
-      | no h ↦ rw (ne-eqb (x .kind) 2 h) same
-      | yes h ↦ rw (eq-eqb (x .kind) 2 h) (record { same = λ j l. same .same j l ∙ sym (beside j l out) })
+    elim (ℕ-discrete (x .kind) wordKind) [
+      | no h ↦ rw (ne-eqb (x .kind) wordKind h) same
+      | yes h ↦ rw (eq-eqb (x .kind) wordKind h) (record { same = λ j l. same .same j l ∙ sym (beside j l out) })
     ]
   where
     beside : (j : ℕ) → j < y .len → (x .at + x .len ≤ y .at) ⊎ (y .at + y .len ≤ x .at)

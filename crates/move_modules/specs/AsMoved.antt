@@ -9,7 +9,7 @@ use borrow.Author.Tests.{eq-eqb, ne-eqb}
 use lib.ListN.{length, drop}
 use Rattle.moves.specs.Moves.{Words, movedTo, moved}
 use Rattle.items.specs.declared.Item.{Item}
-use Rattle.items.specs.Items.{wordsIn, nth, listed}
+use Rattle.items.specs.Items.{wordsIn, nth, listed, wordKind}
 use Rattle.items.specs.Listed.{words-none, words-more, words-same}
 use Rattle.move_modules.specs.Relocate.{addItem, movedBy}
 
@@ -20,14 +20,14 @@ drop-nth (y ∷ l) zero x r e = (cc, cc)
 drop-nth (y ∷ l) (suc i) x r e = drop-nth l i x r e
 
 -- a word's turn, and that of what is no word
-word-turn : (xs : List ℕ) (ws : List Item) (d : ℕ → ℕ) (i : ℕ) (x : Item) → x .kind ≡ 2 → nth ws i ≡ x
+word-turn : (xs : List ℕ) (ws : List Item) (d : ℕ → ℕ) (i : ℕ) (x : Item) → x .kind ≡ wordKind → nth ws i ≡ x
     → addItem (movedTo xs (listed ws) d i) x d ≡ movedTo xs (listed ws) d (suc i)
 unfolding addItem movedTo
-word-turn xs ws d i x k e = rw (eq-eqb (x .kind) 2 k, e)
+word-turn xs ws d i x k e = rw (eq-eqb (x .kind) wordKind k, e)
 
-plain-turn : (ys : List ℕ) (d : ℕ → ℕ) (x : Item) → (x .kind ≡ 2 → ⊥) → addItem ys x d ≡ ys
+plain-turn : (ys : List ℕ) (d : ℕ → ℕ) (x : Item) → (x .kind ≡ wordKind → ⊥) → addItem ys x d ≡ ys
 unfolding addItem
-plain-turn ys d x k = rw (ne-eqb (x .kind) 2 k)
+plain-turn ys d x k = rw (ne-eqb (x .kind) wordKind k)
 
 moved-first : (xs : List ℕ) (ws : Words) (d : ℕ → ℕ) → movedTo xs ws d 0 ≡ xs
 unfolding movedTo
@@ -37,9 +37,9 @@ by-list : (xs : List ℕ) (ws : List Item) (d : ℕ → ℕ) (l : List Item) (i 
     → i + length (wordsIn l) ≡ length ws → movedBy (movedTo xs (listed ws) d i) l d ≡ moved xs (listed ws) d
 unfolding movedBy
 by-list xs ws d [] i e n = let s : i ≡ length ws = omega (arith, words-none) in rw s
-by-list xs ws d (x ∷ l) i e n = go (ℕ-discrete (x .kind) 2) (by-list xs ws d l)
+by-list xs ws d (x ∷ l) i e n = go (ℕ-discrete (x .kind) wordKind) (by-list xs ws d l)
   where
-    go : Dec (x .kind ≡ 2)
+    go : Dec (x .kind ≡ wordKind)
         → ((k : ℕ) → drop k ws ≡ wordsIn l → k + length (wordsIn l) ≡ length ws
         → movedBy (movedTo xs (listed ws) d k) l d ≡ moved xs (listed ws) d)
         → movedBy (addItem (movedTo xs (listed ws) d i) x d) l d ≡ moved xs (listed ws) d

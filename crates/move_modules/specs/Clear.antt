@@ -6,7 +6,7 @@ use mathlib.Core.Path.{_≡_}
 use native.Mathlib.Decide.{ℕ-discrete}
 use Rattle.facts.specs.Fact.{Holds}
 use Rattle.items.specs.declared.Item.{Item}
-use Rattle.items.specs.Items.{each, apart, apartFrom}
+use Rattle.items.specs.Items.{each, apart, apartFrom, wordKind}
 use Rattle.items.specs.ItemsLaws.{each-so, each-join, each-last, apart-turned, apart-across}
 use Rattle.move_modules.specs.Relocate.{clear}
 
@@ -15,7 +15,7 @@ apart-clear x y (inl h) = inr (inl (h .0))
 apart-clear x y (inr h) = inr (inr h)
 
 own : (x : Item) → Holds (clear x x)
-own x = elim (ℕ-discrete (x .kind) 2) [ yes k ↦ inl k | no k ↦ inr (inl k) ]
+own x = elim (ℕ-discrete (x .kind) wordKind) [ yes k ↦ inl k | no k ↦ inr (inl k) ]
 
 clear-from : (before l : List Item) → Holds (apartFrom before l) → Holds (each (λ x. each (clear x) (before ++ l)) l)
 unfolding each apartFrom

@@ -9,9 +9,9 @@ use Rattle.facts.specs.Fact.{Holds}
 use Rattle.words.specs.Le.{le, Alike}
 use Rattle.items.specs.declared.Item.{Item}
 use Rattle.items.specs.Items.{each, inside}
-use Rattle.items.specs.Judged.{Kept}
+use Rattle.items.specs.Shapes.{Kept}
 use Rattle.inside_rows.specs.declared.Module.{Module}
-use Rattle.inside_modules.specs.Modules.{Fits}
+use Rattle.inside_modules.specs.ModulesFit.{Fits}
 use Rattle.inside_pages.specs.declared.Page.{Page}
 use Rattle.inside_pages.specs.Pages.{Paged}
 use Rattle.inside_pages.specs.PagesLaws.{paged-cong}

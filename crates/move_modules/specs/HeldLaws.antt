@@ -13,7 +13,7 @@ use Rattle.words.specs.LeLaws.{alike-in}
 use Rattle.items.specs.declared.Item.{Item}
 use Rattle.items.specs.Items.{each}
 use Rattle.items.specs.ItemsLaws.{take-more}
-use Rattle.items.specs.Judged.{Kept}
+use Rattle.items.specs.Shapes.{Kept}
 use Rattle.move_modules.specs.Relocate.{Held}
 
 -- ---- lists

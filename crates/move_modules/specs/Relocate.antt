@@ -10,13 +10,15 @@ use lib.ListN.{length, drop}
 use Rattle.facts.specs.Fact.{Fact, _≤?_, _≡?_, deny, _or_, Holds}
 use Rattle.words.specs.Put.{add}
 use Rattle.items.specs.declared.Item.{Item}
-use Rattle.items.specs.Items.{each, apartFrom, inside}
-use Rattle.items.specs.Judged.{unbroken, Kept}
+use Rattle.items.specs.Items.{each, apartFrom, inside, keptKind, wordKind}
+use Rattle.items.specs.Judged.{unbroken}
+use Rattle.items.specs.Shapes.{Kept}
 use Rattle.inside_rows.specs.declared.Module.{Module}
-use Rattle.inside_modules.specs.Modules.{Fits}
+use Rattle.inside_modules.specs.ModulesFit.{Fits}
 use Rattle.inside_blocks.specs.Blocks.{entriesFrom}
 use Rattle.inside_walk.specs.declared.Spot.{Spot}
-use Rattle.inside_walk.specs.Whole.{walked, ahead, Valid}
+use Rattle.inside_walk.specs.Whole.{walked}
+use Rattle.inside_walk.specs.WholeWalk.{ahead, Valid}
 use Rattle.inside_walk.specs.Walkable.{Walkable}
 
 -- the amount for a word of k bytes
@@ -25,7 +27,7 @@ shift four eight k = cond (eqb k 4) four eight
 
 -- xs with the item's word moved; what is no word changes nothing
 unfoldable pub addItem : List ℕ → Item → (ℕ → ℕ) → List ℕ
-addItem xs x d = cond (eqb (x .kind) 2) (add (x .len) xs (x .at) (d (x .len))) xs
+addItem xs x d = cond (eqb (x .kind) wordKind) (add (x .len) xs (x .at) (d (x .len))) xs
 
 -- xs with each word moved, one after the other
 unfoldable pub movedBy : List ℕ → List Item → (ℕ → ℕ) → List ℕ
@@ -40,12 +42,12 @@ pub record Movable (xs : List ℕ) (v f : ℕ) : Type 0 where
 
 -- a word x has no byte of y, which is looked at
 abbrev pub clear : Item → Item → Fact
-clear x y = y .kind ≡? 2 or deny (x .kind ≡? 2) or x .at + x .len ≤? y .at or y .at + y .len ≤? x .at
+clear x y = y .kind ≡? wordKind or deny (x .kind ≡? wordKind) or x .at + x .len ≤? y .at or y .at + y .len ≤? x .at
 
 -- the k bytes at p, if there are any, lie in one of the items that are looked at
 unfoldable pub Held : List Item → ℕ → ℕ → Type 0
 Held [] p k = k ≡ 0
-Held (y ∷ l) p k = ((y .kind ≡ 1) × (y .at ≤ p) × (p + k ≤ y .at + y .len)) ⊎ Held l p k
+Held (y ∷ l) p k = ((y .kind ≡ keptKind) × (y .at ≤ p) × (p + k ≤ y .at + y .len)) ⊎ Held l p k
 
 -- ys is xs with the words moved that the walk has passed, and the walk over ys stands at s
 pub record Moving (xs : List ℕ) (v f : ℕ) (d : ℕ → ℕ) (ys : List ℕ) (s : Spot) : Type 0 where

@@ -1,5 +1,6 @@
 -- A turn of the mover: the walk over the changed image is the walk over the image as it was.
 -- Assumes nothing.
+use Rattle.inside_rows.specs.Rows.{peKind, teKind}
 use Prim.Native.Nat.{ℕ, zero, suc, _+_, _-_, _*_, _≤_, _<_}
 use mathlib.Core.List.{List, _∷_, _++_}
 use mathlib.Core.Logic.{inl, inr}
@@ -11,17 +12,19 @@ use Rattle.facts.specs.Fact.{Fact, Holds}
 use Rattle.words.specs.Le.{Bytes}
 use Rattle.moves.specs.Moves.{moved}
 use Rattle.items.specs.declared.Item.{Item}
-use Rattle.items.specs.Items.{each, inside, wordsIn, listed}
+use Rattle.items.specs.Items.{each, inside, wordsIn, listed, endKind}
 use Rattle.items.specs.ItemsLaws.{take-more, each-fork}
 use Rattle.items.specs.Judged.{unbroken}
 use Rattle.inside_rows.specs.declared.Module.{Module}
-use Rattle.inside_modules.specs.Modules.{Fits}
-use Rattle.inside_blocks.specs.Blocks.{headItem, headsFrom, headCount, startOf}
-use Rattle.inside_blocks.specs.Blocks as blocks
+use Rattle.inside_modules.specs.ModulesFit.{Fits}
+use Rattle.inside_blocks.specs.Blocks.{headItem, headsFrom, headCount}
+use Rattle.inside_blocks.specs.BlocksWalk.{startOf}
+use Rattle.inside_blocks.specs.BlocksWalk as blocksWalk
 use Rattle.inside_blocks.specs.BlocksFrame.{entries-cong}
 use Rattle.inside_walk.specs.declared.Spot.{Spot}
 use Rattle.inside_walk.specs.declared.Move.{Move}
-use Rattle.inside_walk.specs.Whole.{walked, ahead, firstSpot, far, Valid, Stepped}
+use Rattle.inside_walk.specs.Whole.{walked}
+use Rattle.inside_walk.specs.WholeWalk.{ahead, firstSpot, far, Valid, Stepped}
 use Rattle.inside_walk.specs.WholeLaws.{ahead-first}
 use Rattle.inside_walk.specs.Walkable.{walkable-valid}
 use Rattle.inside_walk.specs.WholeFrame.{ahead-cong}
@@ -43,16 +46,16 @@ unfolding Held headsFrom headItem
 heads-hold m zero h = inl (refl, omega arith, omega arith)
 heads-hold m (suc k) h = inr (heads-hold m k h)
 
-start-holds : (xs : List ℕ) (m : Module) → Fits xs m → Held (blocks.ahead xs m (startOf m)) (m .table) (40 * m .rows)
-unfolding blocks.ahead startOf headCount
+start-holds : (xs : List ℕ) (m : Module) → Fits xs m → Held (blocksWalk.ahead xs m (startOf m)) (m .table) (40 * m .rows)
+unfolding blocksWalk.ahead startOf headCount
 start-holds xs m fits =
     elim (fits .headed) [
       | inl e ↦ held-none _ (m .table) (40 * m .rows) (omega arith)
       | inr (inl e) ↦
-          rw (eq-eqb (m .kind) 0x10 e)
+          rw (eq-eqb (m .kind) peKind e)
           (held-left (headsFrom m 4) _ (m .table) (40 * m .rows) (heads-hold m 3 (fits .base-within)))
       | inr (inr e) ↦
-          rw (ne-eqb (m .kind) 0x10 (λ z. omega arith), eq-eqb (m .kind) 0x12 e)
+          rw (ne-eqb (m .kind) peKind (λ z. omega arith), eq-eqb (m .kind) teKind e)
           (held-left (headsFrom m 3) _ (m .table) (40 * m .rows) (heads-hold m 2 (fits .base-within)))
     ]
 
@@ -61,7 +64,7 @@ entered-holds : (xs : List ℕ) (v : ℕ) (s : Spot) → Fits xs (s .m) → s .c
     → Held (ahead xs v s) (s .m .table) (40 * s .m .rows)
 unfolding ahead
 entered-holds xs v s fits e =
-    held-left (blocks.ahead xs (s .m) (s .c)) _ (s .m .table) (40 * s .m .rows) (rw e (start-holds xs (s .m) fits))
+    held-left (blocksWalk.ahead xs (s .m) (s .c)) _ (s .m .table) (40 * s .m .rows) (rw e (start-holds xs (s .m) fits))
 
 -- ---- the loop
 
@@ -107,11 +110,11 @@ module _ (xs : List ℕ) (v f : ℕ) (d : ℕ → ℕ) (ok : Movable xs v f) whe
         (held-alike xs ys all _ _ (g .kept) (g .rows)) (held-alike xs ys all _ _ (g .kept) (g .entries))
         (rw (g .rest) at (kept-drop xs ys all (g .i) (g .kept)))
 
-    pub moving-end : t .item .kind ≡ 0 → ys ≡ moved xs (listed (wordsIn (walked xs v f))) d
+    pub moving-end : t .item .kind ≡ endKind → ys ≡ moved xs (listed (wordsIn (walked xs v f))) d
     unfolding movedBy
     moving-end z = rw (same-here ∙ step .ends z) at (g .done) ∙ as-moved xs (walked xs v f) d
 
-    module _ (is : t .item .kind ≡ 0 → ⊥) where
+    module _ (is : t .item .kind ≡ endKind → ⊥) where
       there : drop (g .i) (walked xs v f) ≡ t .item ∷ ahead ys v (t .next)
       there = g .rest ∙ same-here ∙ step .goes is
 

@@ -26,7 +26,7 @@ fn add_item(image: &mut [u8], x: Item, four: u32, eight: u64)
     requires { ⌜ Holds (inside (length (now image)) x) ⌝ }
     ensures { λ _. ⌜ now (image .exit) ≡ addItem (now (image .entry)) x (shift four eight) ⌝ }
 {
-    if x.kind == 2 {
+    if x.kind == items::WORD {
         if x.len == 4 {
             words::add32(image, x.at, four);
         } else {
@@ -83,7 +83,7 @@ pub fn words(image: &mut [u8], v: usize, f: usize, four: u32, eight: u64)
     loop {
         let t = inside_walk::step(image, v, s);
         let x = t.item;
-        if x.kind == 0 {
+        if x.kind == items::END {
             return;
         }
         add_item(image, x, four, eight);

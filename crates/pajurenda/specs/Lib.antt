@@ -1,5 +1,1 @@
 pub mod Promises
-pub mod FieldLaws
-pub mod Theorems
-pub mod Small
-pub mod Demand

@@ -12,7 +12,8 @@ use Rattle.contents.specs.Listing.{contents, contentsIn}
 use Rattle.handoff_step.specs.Step.{stepped}
 use Rattle.handoff_list.specs.Blocks.{blocks, counted}
 use Rattle.c_answers.specs.Steps.{stepFields, countFields}
-use Rattle.c_answers.specs.Answers.{ifRoom, result, answered, readFields, moveFields, sheetFields, finding, settingFields, auditFields, listFields}
+use Rattle.c_answers.specs.Answers.{ifRoom, result, answered, readFields, moveFields, sheetFields, settingFields, auditFields, listFields}
+use Rattle.setting.specs.Finding.{finding}
 use Rattle.words.specs.Put.{put}
 use Rattle.station_order.specs.Order.{atReset}
 use Rattle.station_bytes.specs.Stored.{stationed, stationBytes}

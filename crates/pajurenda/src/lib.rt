@@ -55,7 +55,7 @@ pub extern "C" fn pajurenda_setting(image: &[u8], offset: u64, size: u64, answer
     if answer.len() < 24 {
         return 100;
     }
-    let r = c_answers::find(image, offset, size);
+    let r = setting::find(image, offset, size);
     c_answers::write_found(answer, r);
     r.number
 }

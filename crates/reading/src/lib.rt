@@ -1,6 +1,6 @@
 // Document 01, "Reading an image": rules 1 to 9 in their order, each stage a check or two and then the next; the rules after 9 are in
 // `reading_entries`.
-use reading_rules::Reading;
+use answers::Reading;
 ghost use mathlib.Core.Path.{_≡_};
 ghost use Prim.Native.Nat.{_+_, _-_, _≤_, _<_};
 ghost use lib.ListN.{length};

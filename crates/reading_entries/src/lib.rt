@@ -1,5 +1,5 @@
 // Document 01, "Reading an image", from the configuration region on: rules 10 to 14, document 02's 22 after 12, and its 25 to 27 after 14.
-use reading_rules::Reading;
+use answers::Reading;
 ghost use mathlib.Core.Path.{_≡_};
 ghost use Prim.Native.Nat.{_+_, _-_, _*_, _≤_};
 ghost use lib.ListN.{length};

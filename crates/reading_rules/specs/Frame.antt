@@ -7,23 +7,26 @@ use mathlib.Core.Path.{_≡_, refl, sym, ap, _∙_}
 use mathlib.Core.Logic.{_⊎_, inl, inr}
 use native.Mathlib.Omega.{arith}
 use lib.ListN.{length, getD}
-use Rattle.facts.specs.Fact.{test, Holds, passes, _≡?_}
-use Rattle.facts.specs.Rules.{Rules, Same, Passed, run, run-same}
+use Rattle.words.specs.Round.{round8, round4}
+use Rattle.facts.specs.Fact.{test, Holds, _≡?_}
+use Rattle.facts.specs.FactLaws.{passes}
+use Rattle.facts.specs.Rules.{Rules, run}
+use Rattle.facts.specs.RulesLaws.{Same, Passed, run-same}
 use Rattle.words.specs.Le.{le, Alike}
 use Rattle.words.specs.LeLaws.{alike-in, le-in}
-use Rattle.volume.specs.Volume.{lengthFits, volumeFits, extensionFits, round8, fileFits, sectionFits}
+use Rattle.volume.specs.Volume.{lengthFits, volumeFits, extensionFits, fileFits, sectionFits}
 use Rattle.volume.specs.VolumeLaws.{volume-looks, extension-looks, file-looks, section-looks}
 use Rattle.header.specs.Header.{hasExtended, headerFits, sizeFits, component, extendedNumber, componentFits}
 use Rattle.header.specs.HeaderLaws.{header-looks, size-looks, component-looks, extended-number-looks}
 use Rattle.header.specs.Base.{legalBase}
-use Rattle.table.specs.Table.{round4, extended, extendedFits, patchFits}
+use Rattle.table.specs.Table.{extended, extendedFits, patchFits}
 use Rattle.table.specs.TableLaws.{extended-looks, extendedFits-looks, patch-looks}
 use Rattle.table.specs.PassesLaws.{unrefused-cong, clear-cong}
 use Rattle.region.specs.Region.{regionFits, marksFit}
 use Rattle.region.specs.RegionLaws.{region-looks, marks-looks}
 use Rattle.inside_walk.specs.Whole.{walked}
 use Rattle.inside_judge.specs.RulesLaws.{patches-cong}
-use Rattle.reading_rules.specs.declared.Reading.{Reading}
+use Rattle.answers.specs.declared.Reading.{Reading}
 use Rattle.reading_rules.specs.Reading.{refusal, identityAt, accepted, rebased, reading}
 use Rattle.reading_rules.specs.Stages.{fromModules, fromEntries, fromRegion, fromPatch, fromTable, fromComponent, fromHeader, fromSection, fromFile, fromExtension, fromVolume, stages, by-stages}
 

@@ -7,13 +7,14 @@ use mathlib.Core.Path.{_≡_, refl, sym, ap, _∙_}
 use mathlib.Core.Logic.{_⊎_, inl, inr}
 use native.Mathlib.Omega.{arith}
 use lib.ListN.{length, getD}
-use Rattle.facts.specs.Fact.{test, Holds, passes}
-use Rattle.facts.specs.Rules.{Passed}
+use Rattle.facts.specs.Fact.{test, Holds}
+use Rattle.facts.specs.FactLaws.{passes}
+use Rattle.facts.specs.RulesLaws.{Passed}
 use Rattle.words.specs.Le.{le, Alike}
 use Rattle.words.specs.LeLaws.{le-cong}
 use Rattle.header.specs.Base.{legalBase}
 use Rattle.inside_walk.specs.Whole.{walked}
-use Rattle.reading_rules.specs.declared.Reading.{Reading}
+use Rattle.answers.specs.declared.Reading.{Reading}
 use Rattle.reading_rules.specs.Reading.{accepted, rebased, fileAt, reading}
 use Rattle.reading_rules.specs.Stages.{fromModules, fromEntries, fromRegion, fromPatch, fromTable, fromComponent, fromHeader, fromSection, fromFile, fromExtension, fromVolume, stages}
 use Rattle.reading_rules.specs.Guarantee.{Guaranteed, guaranteed, all-passed}

@@ -17,14 +17,15 @@ use Rattle.header.specs.Base.{legalBase}
 use Rattle.items.specs.declared.Item.{Item}
 use Rattle.items.specs.Items.{word, each}
 use Rattle.items.specs.ItemsLaws.{each-so, each-join, apart-fork}
-use Rattle.items.specs.Judged.{unbroken, sound, from, Kept}
+use Rattle.items.specs.Judged.{unbroken, sound}
+use Rattle.items.specs.Shapes.{from, Kept}
 use Rattle.items.specs.KeptLaws.{kept-but}
 use Rattle.inside_walk.specs.Whole.{walked}
 use Rattle.inside_walk.specs.WholeAbove.{walked-sized}
 use Rattle.inside_walk.specs.WholeFrame.{walked-cong}
 use Rattle.inside_judge.specs.Rules.{patchItems}
 use Rattle.inside_judge.specs.RulesLaws.{patches-cong}
-use Rattle.reading_rules.specs.declared.Reading.{Reading}
+use Rattle.answers.specs.declared.Reading.{Reading}
 use Rattle.reading_rules.specs.Reading.{entriesAt, fileAt, rebased, reading}
 use Rattle.reading_rules.specs.Guarantee.{Guaranteed, guaranteed}
 use Rattle.reading_rules.specs.FrameBelow.{AlikeBelow, Framed, framed, frame-below}

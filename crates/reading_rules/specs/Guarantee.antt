@@ -8,7 +8,8 @@ use mathlib.Core.Path.{_≡_, refl, sym, _∙_}
 use native.Mathlib.Omega.{arith}
 use lib.ListN.{length}
 use Rattle.facts.specs.Fact.{Holds}
-use Rattle.facts.specs.Rules.{Passed, passed, run}
+use Rattle.facts.specs.Rules.{run}
+use Rattle.facts.specs.RulesLaws.{Passed, passed}
 use Rattle.words.specs.Le.{le}
 use Rattle.header.specs.Header.{component, componentFits}
 use Rattle.header.specs.Base.{legalBase}
@@ -17,7 +18,7 @@ use Rattle.table.specs.Passes.{place, outside, apart, clear}
 use Rattle.table.specs.PassesLaws.{place-placed}
 use Rattle.inside_walk.specs.Walkable.{Walkable}
 use Rattle.inside_judge.specs.Rules.{modulesFit, wordsFit, typesFit}
-use Rattle.reading_rules.specs.declared.Reading.{Reading}
+use Rattle.answers.specs.declared.Reading.{Reading}
 use Rattle.reading_rules.specs.Reading.{refusal, identityAt, accepted, entriesAt, fileAt, wordAt, reading, Reads}
 use Rattle.reading_rules.specs.Stages.{fromModules, fromEntries, fromRegion, fromPatch, fromTable, fromComponent, fromHeader, fromSection, fromFile, fromExtension, fromVolume, stages, by-stages}
 

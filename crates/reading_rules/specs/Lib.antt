@@ -1,6 +1,5 @@
 pub mod Reading
 pub mod Stages
-pub mod After
 pub mod Guarantee
 pub mod Frame
 pub mod FrameBelow
@@ -10,3 +9,4 @@ pub mod FrameBut
 pub mod Small
 pub mod Damaged
 pub mod Numbers
+pub mod NumbersLaws

@@ -7,18 +7,19 @@ use mathlib.Core.Bool.{cond}
 use mathlib.Core.List.{List}
 use mathlib.Core.Path.{_≡_}
 use lib.ListN.{length}
+use Rattle.words.specs.Round.{round8, round4}
 use Rattle.facts.specs.Fact.{Fact, _≡?_, deny, _or_, test}
 use Rattle.facts.specs.Rules.{Rules, answer, rule, pass, run}
 use Rattle.words.specs.Le.{le}
-use Rattle.volume.specs.Volume.{lengthFits, volumeFits, extensionFits, round8, fileFits, sectionFits}
+use Rattle.volume.specs.Volume.{lengthFits, volumeFits, extensionFits, fileFits, sectionFits}
 use Rattle.header.specs.Header.{headerFits, sizeFits, component, extendedNumber, componentFits}
 use Rattle.header.specs.Base.{legalBase}
-use Rattle.table.specs.Table.{round4, extended, extendedFits, patchFits}
+use Rattle.table.specs.Table.{extended, extendedFits, patchFits}
 use Rattle.table.specs.Passes.{place, unrefused, clear}
 use Rattle.region.specs.Region.{regionFits, marksFit}
 use Rattle.inside_judge.specs.Rules.{modulesFit, wordsFit, typesFit}
-use Rattle.reading_rules.specs.declared.Identity.{Identity}
-use Rattle.reading_rules.specs.declared.Reading.{Reading}
+use Rattle.answers.specs.declared.Identity.{Identity}
+use Rattle.answers.specs.declared.Reading.{Reading}
 
 -- ---- what a reading gives
 

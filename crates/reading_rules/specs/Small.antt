@@ -25,7 +25,7 @@ use Rattle.inside_places.specs.Places.{shifted, found}
 use Rattle.inside_blocks.specs.Blocks.{headItem, headsFrom, headCount, wordOf, itemOf, entriesFrom, blocksFrom, items}
 use Rattle.inside_walk.specs.Whole.{moduleIn, itemFor, spread, walked}
 use Rattle.inside_judge.specs.Rules.{patchFrom}
-use Rattle.reading_rules.specs.declared.Reading.{Reading}
+use Rattle.answers.specs.declared.Reading.{Reading}
 use Rattle.reading_rules.specs.Reading.{refusal, identityAt, accepted, rules, reading, f, p}
 
 -- bytes 0..71, the volume's header: its length, its mark, h, the word that makes the sum 0, and x

@@ -8,18 +8,19 @@ use mathlib.Core.Path.{_≡_, refl}
 use native.Mathlib.Omega.{arith}
 use lib.Dec.{eqb}
 use lib.ListN.{length}
+use Rattle.words.specs.Round.{round8, round4}
 use Rattle.facts.specs.Fact.{_≡?_, deny, _or_, test}
 use Rattle.facts.specs.Rules.{Rules, answer, rule, pass, choose, run}
 use Rattle.words.specs.Le.{le}
-use Rattle.volume.specs.Volume.{lengthFits, volumeFits, extensionFits, round8, fileFits, sectionFits}
+use Rattle.volume.specs.Volume.{lengthFits, volumeFits, extensionFits, fileFits, sectionFits}
 use Rattle.header.specs.Header.{headerFits, sizeFits, component, componentFits}
 use Rattle.header.specs.Base.{legalBase}
-use Rattle.table.specs.Table.{round4, extended, extendedFits, patchFits}
+use Rattle.table.specs.Table.{extended, extendedFits, patchFits}
 use Rattle.table.specs.Passes.{unrefused, clear}
 use Rattle.region.specs.Region.{regionFits, marksFit}
 use Rattle.inside_judge.specs.Rules.{modulesFit, wordsFit, typesFit}
 use Rattle.inside_rules.specs.Contents.{contentsNumber}
-use Rattle.reading_rules.specs.declared.Reading.{Reading}
+use Rattle.answers.specs.declared.Reading.{Reading}
 use Rattle.reading_rules.specs.Reading as the
 use Rattle.reading_rules.specs.Reading.{refusal, accepted, rules, reading}
 

@@ -8,7 +8,7 @@ use Rattle.items.specs.declared.Item.{Item}
 use Rattle.items.specs.Items.{word, wordsIn, listed}
 use Rattle.inside_walk.specs.Whole.{walked}
 use Rattle.inside_judge.specs.Rules.{patchItems}
-use Rattle.reading_rules.specs.declared.Reading.{Reading}
+use Rattle.answers.specs.declared.Reading.{Reading}
 use Rattle.reading_rules.specs.Reading.{entriesAt, fileAt}
 
 -- the base word, the patch words in table order, then all that the walk over files, sections and modules meets

@@ -12,16 +12,17 @@ use Rattle.words.specs.Le.{le}
 use Rattle.moves.specs.Moves.{Words, Beside, Spread}
 use Rattle.table.specs.Passes.{place}
 use Rattle.items.specs.declared.Item.{Item}
-use Rattle.items.specs.Items.{word, each, apart, apartFrom, inside, wordsIn, nth, listed}
+use Rattle.items.specs.Items.{word, each, apart, apartFrom, inside, wordsIn, nth, listed, wordKind}
 use Rattle.items.specs.ItemsLaws.{each-so, each-both, each-join, apart-join}
-use Rattle.items.specs.Judged.{off, sound, placed, from}
+use Rattle.items.specs.Judged.{off, sound, placed}
+use Rattle.items.specs.Shapes.{from}
 use Rattle.items.specs.KeptLaws.{apart-first}
 use Rattle.items.specs.Listed as listing
 use Rattle.items.specs.Listed.{words-more, each-nth}
 use Rattle.inside_walk.specs.Whole.{walked}
 use Rattle.inside_walk.specs.WholeAbove.{walked-above, walked-inside}
 use Rattle.inside_judge.specs.Rules.{patchFrom, patchItems}
-use Rattle.reading_rules.specs.declared.Reading.{Reading}
+use Rattle.answers.specs.declared.Reading.{Reading}
 use Rattle.reading_rules.specs.Reading.{entriesAt, fileAt, wordAt}
 use Rattle.reading_rules.specs.Guarantee.{Guaranteed}
 use Rattle.reading_rules.specs.Words.{met, wordsOf}
@@ -103,7 +104,7 @@ module _ (xs : List ℕ) (r : Reading) (g : Guaranteed xs r) where
 
   -- each later one stands clear of the tables and of the region
   abbrev clearOf : Item → Fact
-  clearOf x = deny (x .kind ≡? 2) or (r .E ≤? x .at and off (r .c) (r .z) x)
+  clearOf x = deny (x .kind ≡? wordKind) or (r .E ≤? x .at and off (r .c) (r .z) x)
 
   clear-words : Holds (each clearOf (patchItems xs (entriesAt r) (r .n) ++ walk))
   clear-words =

@@ -1,30 +1,11 @@
 // The answer of a reading: what document 01 gives for an image, and the refusals. The rules in their order are in `reading` and
 // `reading_entries`.
+use answers::Identity;
+use answers::Reading;
 ghost use mathlib.Core.Path.{_≡_};
 ghost use Prim.Native.Nat.{_+_, _*_, _≤_};
 ghost use lib.ListN.{length};
 ghost use Rattle.reading_rules.specs.Reading.{refusal, identityAt, accepted};
-
-// What tells one release of an image from another: the image identity, the revision, and the extended number.
-pub struct Identity {
-    pub image: u64,
-    pub revision: u32,
-    pub extended: u32,
-}
-
-// The answer of a reading: number 0 and the fields, or the refusal's number and index and zero in every other field.
-pub struct Reading {
-    pub number: u32,
-    pub index: usize,
-    pub H: usize,
-    pub component: usize,
-    pub identity: Identity,
-    pub base: u64,
-    pub c: usize,
-    pub z: usize,
-    pub n: usize,
-    pub E: usize,
-}
 
 pub fn refused(number: u32, index: usize) -> Reading
     ensures { λ r. ⌜ r ≡ refusal number index ⌝ }

@@ -1,2 +1,3 @@
 pub mod Release
+pub mod Releasable
 pub mod ReleaseLaws

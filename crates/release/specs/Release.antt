@@ -4,30 +4,13 @@ use Prim.Native.Nat.{ℕ}
 use mathlib.Core.List.{List}
 use mathlib.Core.Path.{_≡_}
 use lib.ListN.{length}
-use Rattle.facts.specs.Fact.{every}
-use Rattle.facts.specs.Rules.{Rules, answer, rule}
-use Rattle.header.specs.Base.{legalBase}
-use Rattle.reading_rules.specs.declared.Reading.{Reading}
 use Rattle.reading_rules.specs.Reading.{reading}
-use Rattle.reading_rules.specs.After.{afterReading, unlessRefused}
-use Rattle.move_image.specs.declared.Moved.{Moved}
-use Rattle.move_image.specs.Moving.{moveTo, refusedMove, acceptedMove}
-use Rattle.sheet.specs.Sheet.{sheetIdentity, count, sheetFits, sameIdentity, fieldFits}
-use Rattle.sheet.specs.Set.{setBy}
-use Rattle.owners.specs.Owners.{ownersFit, fieldsOwned}
-
--- 16 and 17 of the sheet, 24 of its bytes' owner, then 18 NEWBASE: the new base is legal; r is the reading of an image of this size
-unfoldable pub nameRules : Reading → ℕ → List ℕ → ℕ → List ℕ → ℕ → Rules Moved
-nameRules r size s base o owner =
-    rule 16 (sameIdentity (sheetIdentity s) (r .identity))
-    (rule 17 (every (count s) (fieldFits s (r .z)))
-    (rule 24 (fieldsOwned s o owner)
-    (rule 18 (legalBase size base)
-    (answer (acceptedMove r base)))))
-
--- 15 of the sheet and 23 of the list and the caller before them
-unfoldable pub releaseRules : Reading → ℕ → List ℕ → ℕ → List ℕ → ℕ → Rules Moved
-releaseRules r size s base o owner = rule 15 (sheetFits s) (rule 23 (ownersFit o owner (r .z)) (nameRules r size s base o owner))
+use Rattle.answers.specs.After.{afterReading, unlessRefused}
+use Rattle.answers.specs.declared.Moved.{Moved}
+use Rattle.move_image.specs.Moving.{moveTo}
+use Rattle.move_answer.specs.MoveAnswer.{refusedMove}
+use Rattle.sheet_bodies.specs.Set.{setBy}
+use Rattle.release_judge.specs.Judged.{releaseRules}
 
 -- the answer of a release: the image's refusals come first
 unfoldable pub releasing : List ℕ → List ℕ → ℕ → List ℕ → ℕ → Moved

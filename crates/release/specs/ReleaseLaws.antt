@@ -6,31 +6,27 @@ use mathlib.Core.Path.{_≡_, refl, sym, ap, _∙_}
 use native.Mathlib.Decide.{ℕ-discrete}
 use lib.ListN.{length}
 use Rattle.facts.specs.Fact.{Holds}
-use Rattle.facts.specs.Rules.{run, passed, run-passed}
+use Rattle.facts.specs.Rules.{run}
+use Rattle.facts.specs.RulesLaws.{passed, run-passed}
 use Rattle.header.specs.Base.{legalBase}
-use Rattle.reading_rules.specs.declared.Reading.{Reading}
+use Rattle.answers.specs.declared.Reading.{Reading}
 use Rattle.reading_rules.specs.Reading.{reading}
 use Rattle.reading_rules.specs.Guarantee.{Guaranteed, guaranteed}
-use Rattle.reading_rules.specs.After.{after-accepted, after-refused, changed-so, kept-so}
-use Rattle.move_image.specs.declared.Moved.{Moved}
-use Rattle.move_image.specs.Moving.{refusedMove, acceptedMove}
+use Rattle.answers.specs.AfterLaws.{after-accepted, after-refused, changed-so, kept-so}
+use Rattle.answers.specs.declared.Moved.{Moved}
+use Rattle.move_answer.specs.MoveAnswer.{refusedMove, acceptedMove}
 use Rattle.sheet.specs.Sheet.{Sound, sheetIdentity, sameIdentity}
-use Rattle.sheet.specs.Set.{setBy, setImage, Fits}
+use Rattle.sheet_bodies.specs.Set.{setBy, setImage, Fits}
 use Rattle.owners.specs.Owners.{ownersFit, fieldsOwned}
 use Rattle.release_steps.specs.SetStep.{set-reads, read-after}
-use Rattle.release.specs.Release.{nameRules, releaseRules, releasing, twoSteps, releasedImage, Releases}
+use Rattle.release.specs.Release.{releasing, twoSteps, releasedImage, Releases}
+use Rattle.release_judge.specs.Judged.{nameRules, releaseRules}
+use Rattle.release.specs.Releasable.{Releasable}
 
 -- any two outcomes that the promise of a release admits are the same
 pub one-release : (xs s : List ℕ) (base : ℕ) (o : List ℕ) (owner : ℕ) (m n : Moved) (ys zs : List ℕ) → Releases xs s base o owner m ys
     → Releases xs s base o owner n zs → (m ≡ n) × (ys ≡ zs)
 one-release xs s base o owner m n ys zs (a, b) (c, d) = (a ∙ sym c, b ∙ sym d)
-
--- the sheet fits the image, its bytes are the caller's by a good list, and the new base is legal
-pub record Releasable (xs s : List ℕ) (base : ℕ) (o : List ℕ) (owner : ℕ) : Type 0 where
-  pub fits : Fits xs s
-  pub good : Holds (ownersFit o owner (reading xs .z))
-  pub own : Holds (fieldsOwned s o owner)
-  pub legal : Holds (legalBase (length xs) base)
 
 -- what an answer with number 0 has passed
 judged-shows : (r : Reading) (size : ℕ) (s : List ℕ) (base : ℕ) (o : List ℕ) (owner : ℕ)

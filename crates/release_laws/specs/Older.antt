@@ -6,20 +6,22 @@ use mathlib.Core.List.{List}
 use mathlib.Core.Path.{_≡_, sym, ap, _∙_}
 use native.Mathlib.Omega.{arith}
 use lib.ListN.{length}
-use Rattle.facts.specs.Fact.{Fact, Holds, _≤?_, _≡?_, _and_, every, passes, fails, same-test}
+use Rattle.facts.specs.Fact.{Fact, Holds, _≤?_, _≡?_, _and_, every}
+use Rattle.facts.specs.FactLaws.{passes, fails, same-test}
 use Rattle.facts.specs.Rules.{Rules, answer, rule, run}
 use Rattle.words.specs.Le.{le}
 use Rattle.header.specs.HeaderLaws.{extended-none}
 use Rattle.header.specs.Base.{legalBase}
-use Rattle.reading_rules.specs.declared.Identity.{Identity}
-use Rattle.reading_rules.specs.declared.Reading.{Reading}
+use Rattle.answers.specs.declared.Identity.{Identity}
+use Rattle.answers.specs.declared.Reading.{Reading}
 use Rattle.reading_rules.specs.Reading.{identityAt, reading}
 use Rattle.reading_rules.specs.Guarantee.{guaranteed}
-use Rattle.move_image.specs.declared.Moved.{Moved}
-use Rattle.move_image.specs.Moving.{refusedMove, acceptedMove}
+use Rattle.answers.specs.declared.Moved.{Moved}
+use Rattle.move_answer.specs.MoveAnswer.{refusedMove, acceptedMove}
 use Rattle.sheet.specs.Sheet.{sheetIdentity, count, contentsFit, bodiesFit, sheetFits, sameIdentity, fieldFits}
 use Rattle.owners.specs.Owners.{ownersFit, fieldsOwned}
-use Rattle.release.specs.Release.{nameRules, releaseRules, releasing}
+use Rattle.release.specs.Release.{releasing}
+use Rattle.release_judge.specs.Judged.{nameRules, releaseRules}
 use Rattle.release.specs.ReleaseLaws.{release-judged}
 
 -- bytes 14 and 15 are zero

@@ -15,17 +15,19 @@ use Rattle.words.specs.Put.{digit, put, add}
 use Rattle.words.specs.Number.{number, zeros}
 use Rattle.table.specs.Entry.{placeOf}
 use Rattle.table.specs.Passes.{place}
-use Rattle.reading_rules.specs.declared.Reading.{Reading}
+use Rattle.answers.specs.declared.Reading.{Reading}
 use Rattle.reading_rules.specs.Reading.{reading}
 use Rattle.reading_rules.specs.Small.{small, later, settingBytes, small-reads, six-reads, five-reads}
-use Rattle.move_image.specs.declared.Moved.{Moved}
-use Rattle.move_image.specs.Moves.{difference, movedTo}
-use Rattle.move_image.specs.Moving.{refusedMove, acceptedMove, moveTo}
+use Rattle.answers.specs.declared.Moved.{Moved}
+use Rattle.moves.specs.Moves.{difference, movedTo}
+use Rattle.move_image.specs.Moving.{moveTo}
+use Rattle.move_answer.specs.MoveAnswer.{refusedMove, acceptedMove}
 use Rattle.move_image.specs.Small.{small-move, small-moves}
 use Rattle.sheet.specs.Sheet.{bodyAt}
-use Rattle.sheet.specs.Set.{copied, written, setBy, setImage}
-use Rattle.sheet.specs.Small.{sample, sampleFor, small-set}
-use Rattle.release.specs.Release.{nameRules, releaseRules, releasing, twoSteps, releasedImage}
+use Rattle.sheet_bodies.specs.Set.{copied, written, setBy, setImage}
+use Rattle.sheet_bodies.specs.Small.{sample, sampleFor, small-set}
+use Rattle.release.specs.Release.{releasing, twoSteps, releasedImage}
+use Rattle.release_judge.specs.Judged.{nameRules, releaseRules}
 use Rattle.release.specs.ReleaseLaws.{release-judged, release-changed}
 
 -- bytes 40 and 41 are owner 1's, the next two owner 2's

@@ -12,25 +12,30 @@ use Rattle.facts.specs.Fact.{Holds}
 use Rattle.words.specs.Le.{le, Bytes}
 use Rattle.words.specs.LeLaws.{le-cong}
 use Rattle.header.specs.Base.{legalBase}
-use Rattle.reading_rules.specs.declared.Reading.{Reading}
+use Rattle.answers.specs.declared.Reading.{Reading}
 use Rattle.reading_rules.specs.Words.{met}
 use Rattle.reading_rules.specs.Reading.{rebased, reading}
 use Rattle.reading_rules.specs.Guarantee.{guaranteed}
-use Rattle.reading_rules.specs.Numbers.{Numbered, after-every, numbered-own, own-number, own-zero}
-use Rattle.move_image.specs.declared.Moved.{Moved}
-use Rattle.move_image.specs.Moves.{difference, Beside}
-use Rattle.move_image.specs.Moving.{movedWords, moveTo, refusedMove, movedImage}
+use Rattle.reading_rules.specs.Numbers.{Numbered, OwnRelease}
+use Rattle.reading_rules.specs.NumbersLaws.{after-every, numbered-own, own-number, own-zero}
+use Rattle.answers.specs.declared.Moved.{Moved}
+use Rattle.moves.specs.Moves.{difference, Beside}
+use Rattle.move_image.specs.Moving.{movedWords, moveTo, movedImage}
+use Rattle.move_answer.specs.MoveAnswer.{refusedMove}
 use Rattle.reading_rules.specs.WordsLaws.{beside}
 use Rattle.sheet.specs.Sheet.{count, offset, size, bodyAt}
-use Rattle.sheet.specs.Set.{fieldsOf, setBy, setImage, Fits}
-use Rattle.sheet.specs.SetLaws.{body-within}
+use Rattle.sheet_bodies.specs.Set.{fieldsOf, setBy, setImage, Fits}
+use Rattle.sheet_bodies.specs.SetLaws.{body-within}
 use Rattle.setting.specs.Setting.{settingFits, settingPart}
 use Rattle.setting.specs.SettingLaws.{setting-accepted}
 use Rattle.release_steps.specs.MoveStep.{unmoved-byte, moved-number, length-after, bytes-after, moved-reads, moved-on, moved-nowhere}
-use Rattle.release_steps.specs.SetStep.{Within, unset-byte, set-byte, length-after-set, bytes-after-set, set-reads, words-stay, read-after, set-empty, fits-alike}
+use Rattle.release_steps.specs.SetStep.{unset-byte, set-byte, length-after-set, bytes-after-set, set-reads, words-stay, read-after, set-empty, fits-alike}
+use Rattle.release_steps.specs.Within.{Within}
 use Rattle.release_steps.specs.TwoSteps.{fits-moved, commute, word-kept}
-use Rattle.release.specs.Release.{nameRules, releaseRules, releasing, twoSteps, releasedImage}
-use Rattle.release.specs.ReleaseLaws.{Releasable, release-changed, release-shows, release-goes}
+use Rattle.release.specs.Release.{releasing, twoSteps, releasedImage}
+use Rattle.release_judge.specs.Judged.{nameRules, releaseRules}
+use Rattle.release.specs.ReleaseLaws.{release-changed, release-shows, release-goes}
+use Rattle.release.specs.Releasable.{Releasable}
 
 -- ---- an accepted release, as two steps
 
@@ -192,10 +197,6 @@ there-and-back xs s base o owner bx bs none ok =
     )
 
 -- ---- which numbers and indices a release answers
-
--- its own refusals are 15 to 18, 23 and 24
-abbrev pub OwnRelease : ℕ → Type 0
-OwnRelease k = ((15 ≤ k) × (k ≤ 18)) ⊎ ((23 ≤ k) × (k ≤ 24))
 
 pub release-numbered : (xs s : List ℕ) (base : ℕ) (o : List ℕ) (owner : ℕ)
     → Numbered xs OwnRelease (releasing xs s base o owner .number) (releasing xs s base o owner .index)

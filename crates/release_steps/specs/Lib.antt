@@ -1,3 +1,4 @@
 pub mod MoveStep
+pub mod Within
 pub mod SetStep
 pub mod TwoSteps

@@ -13,20 +13,17 @@ use Rattle.words.specs.Le.{le, Bytes}
 use Rattle.header.specs.Base.{legalBase}
 use Rattle.items.specs.declared.Item.{Item}
 use Rattle.items.specs.Items.{wordsIn, listed}
-use Rattle.reading_rules.specs.declared.Reading.{Reading}
+use Rattle.answers.specs.declared.Reading.{Reading}
 use Rattle.reading_rules.specs.Reading.{rebased, reading}
 use Rattle.reading_rules.specs.Guarantee.{Guaranteed, guaranteed}
 use Rattle.reading_rules.specs.Words.{met, wordsOf}
 use Rattle.reading_rules.specs.WordsLaws.{spread, widths, base-word}
 use Rattle.reading_rules.specs.FrameBut.{words-but, frame-but}
-use Rattle.move_image.specs.Moves.{difference, moved, Beside}
-use Rattle.move_image.specs.MovesLaws.{length-moved, bytes-moved, moved-beside, moved-word, moved-twice, moved-none, difference-sum, difference-none}
-use Rattle.move_image.specs.Moving.{movedWords, moveTo, movedImage, Magnitude}
+use Rattle.moves.specs.Moves.{difference, moved, Beside}
+use Rattle.moves.specs.MovesLaws.{length-moved, bytes-moved, moved-beside, moved-word, moved-twice, moved-none, difference-sum, difference-none}
+use Rattle.move_image.specs.Moving.{movedWords, moveTo, movedImage}
+use Rattle.move_answer.specs.MoveAnswer.{Magnitude}
 use Rattle.move_image.specs.MovingLaws.{moved-alike}
-
--- any two answers that the promise of `magnitude` admits are the same
-pub one-magnitude : (z : ℤ) (r s : ℕ) → Magnitude z r → Magnitude z s → r ≡ s
-one-magnitude z r s a b = a ∙ sym b
 
 -- the words stand where they stood whatever the base
 words-rebased : (xs : List ℕ) (r : Reading) (w : ℕ) → met xs (rebased r w) ≡ met xs r

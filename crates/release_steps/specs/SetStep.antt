@@ -1,7 +1,7 @@
 -- Demand 2 for a sheet: what changes and what doesn't, that the image afterwards reads as before, and that setting twice is setting once,
 -- where the sheet fits the image.
 -- Assumes nothing.
-use mathlib.Core.Path.{_≡_, refl, sym, ap, _∙_}
+use mathlib.Core.Path.{_≡_, sym, ap, _∙_}
 use mathlib.Core.List.{List}
 use mathlib.Core.Logic.{_⊎_, inl, inr}
 use Prim.Native.Nat.{ℕ, _+_, _-_, _≤_, _<_}
@@ -10,21 +10,18 @@ use lib.ListN.{length, getD}
 use lib.Seq.{ext-getD}
 use Rattle.words.specs.Le.{le, Bytes}
 use Rattle.words.specs.LeLaws.{le-cong}
-use Rattle.reading_rules.specs.declared.Reading.{Reading}
+use Rattle.answers.specs.declared.Reading.{Reading}
 use Rattle.reading_rules.specs.Reading.{rebased, reading}
 use Rattle.reading_rules.specs.Guarantee.{guaranteed}
 use Rattle.reading_rules.specs.Words.{met}
 use Rattle.reading_rules.specs.FrameBut.{AlikeBut, frame-but}
-use Rattle.move_image.specs.Moves.{Beside}
-use Rattle.move_image.specs.MovesLaws.{find}
+use Rattle.moves.specs.Moves.{Beside}
+use Rattle.moves.specs.MovesLaws.{find}
 use Rattle.move_image.specs.MovingLaws.{same-words}
 use Rattle.sheet.specs.Sheet.{count, offset, size, bodyAt}
-use Rattle.sheet.specs.Set.{fieldsOf, setImage, Fits}
-use Rattle.sheet.specs.SetLaws.{length-set-by, set-outside, set-beside, set-in}
-
--- the byte at k lies in an entry of the sheet
-abbrev pub Within : Reading → List ℕ → ℕ → Type 0
-Within r s k = (i : ℕ) × (i < count s) × (r .c + offset s i ≤ k) × (k < r .c + offset s i + size s i)
+use Rattle.sheet_bodies.specs.Set.{fieldsOf, setImage, Fits}
+use Rattle.sheet_bodies.specs.SetLaws.{length-set-by, set-outside, set-beside, set-in}
+use Rattle.release_steps.specs.Within.{Within}
 
 module _ (xs s : List ℕ) (ok : Fits xs s) where
   -- a byte outside the sheet's own entries keeps its value

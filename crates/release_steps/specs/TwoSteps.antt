@@ -10,15 +10,15 @@ use Rattle.facts.specs.Fact.{Holds}
 use Rattle.words.specs.Le.{le, Bytes, Alike}
 use Rattle.words.specs.LeLaws.{le-cong}
 use Rattle.header.specs.Base.{legalBase}
-use Rattle.reading_rules.specs.declared.Reading.{Reading}
+use Rattle.answers.specs.declared.Reading.{Reading}
 use Rattle.reading_rules.specs.Words.{met}
 use Rattle.reading_rules.specs.Reading.{reading}
 use Rattle.reading_rules.specs.Guarantee.{guaranteed}
 use Rattle.reading_rules.specs.WordsLaws.{words-outside}
-use Rattle.move_image.specs.Moves.{Words, difference}
-use Rattle.move_image.specs.MovesLaws.{by-words}
+use Rattle.moves.specs.Moves.{Words, difference}
+use Rattle.moves.specs.MovesLaws.{by-words}
 use Rattle.move_image.specs.Moving.{movedWords, movedImage}
-use Rattle.sheet.specs.Set.{setImage, Fits}
+use Rattle.sheet_bodies.specs.Set.{setImage, Fits}
 use Rattle.release_steps.specs.MoveStep.{unmoved-byte, moved-number, length-after, bytes-after, moved-reads}
 use Rattle.release_steps.specs.SetStep.{kept-outside, length-after-set, bytes-after-set, set-reads, words-stay, read-after, fits-alike, same-byte}
 

@@ -10,7 +10,7 @@ use lib.ListN.{length, take, drop}
 use Rattle.facts.specs.Fact.{Fact, _≤?_, _and_, test}
 use Rattle.facts.specs.Rules.{answer, rule}
 use Rattle.reading_rules.specs.Reading.{reading}
-use Rattle.reading_rules.specs.After.{afterReading, unlessRefused}
+use Rattle.answers.specs.After.{afterReading, unlessRefused}
 
 -- 17 FIELD for a lookup: it isn't empty and lies in the settings part
 abbrev pub settingFits : ℕ → ℕ → ℕ → Fact

@@ -10,13 +10,15 @@ use mathlib.Core.Bool.{cond}
 use lib.Dec.{eqb}
 use lib.ListN.{length, getD, take, drop, length-take, length-drop}
 use lib.Seq.{ext-getD, getD-take, getD-drop, length-take-le}
-use Rattle.facts.specs.Fact.{Holds, passes, fails}
-use Rattle.facts.specs.Rules.{Rules, answer, rule, run, passed, by-test}
+use Rattle.facts.specs.Fact.{Holds}
+use Rattle.facts.specs.FactLaws.{passes, fails}
+use Rattle.facts.specs.Rules.{Rules, answer, rule, run}
+use Rattle.facts.specs.RulesLaws.{passed, by-test}
 use Rattle.reading_rules.specs.Reading.{reading}
-use Rattle.reading_rules.specs.After.{after-accepted, after-refused, changed-so, kept-so}
+use Rattle.answers.specs.AfterLaws.{after-accepted, after-refused, changed-so, kept-so}
 use Rattle.reading_rules.specs.Guarantee.{guaranteed}
-use Rattle.reading_rules.specs.Numbers.{refused-is}
-use Rattle.reading_rules.specs.declared.Reading.{Reading}
+use Rattle.reading_rules.specs.NumbersLaws.{refused-is}
+use Rattle.answers.specs.declared.Reading.{Reading}
 use Rattle.setting.specs.Setting.{settingFits, regionPart, regionPlace, settingNumber, settingPart, settingPlace}
 
 -- a part of a part

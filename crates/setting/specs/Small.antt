@@ -5,7 +5,7 @@ use native.Mathlib.Omega.{arith}
 use mathlib.Core.List.{List}
 use mathlib.Core.Path.{_≡_, ap}
 use Rattle.facts.specs.Fact.{Holds}
-use Rattle.reading_rules.specs.declared.Reading.{Reading}
+use Rattle.answers.specs.declared.Reading.{Reading}
 use Rattle.reading_rules.specs.Reading.{reading}
 use Rattle.reading_rules.specs.Small.{small, settingBytes, small-reads}
 use Rattle.setting.specs.Setting.{settingFits, settingNumber, settingPlace}

@@ -5,7 +5,8 @@ use mathlib.Core.List.{List}
 use mathlib.Core.Logic.{inl}
 use Prim.Native.Nat.{ℕ}
 use denote.Ref.{RefT, ptr, now}
-use Rattle.reading_rules.specs.Numbers.{Numbered, after-every, numbered-own, own-number, own-zero}
+use Rattle.reading_rules.specs.Numbers.{Numbered, OwnLookup}
+use Rattle.reading_rules.specs.NumbersLaws.{after-every, numbered-own, own-number, own-zero}
 use Rattle.setting.specs.Setting.{settingNumber, HandsBack, NumberOf}
 
 -- any two parts that a lookup's promise admits are the same bytes at the same place
@@ -16,10 +17,6 @@ one-setting image offset size r s (a, b) (c, d) = (a ∙ sym c, λ i. ((b .0 ∙
 
 pub one-number : (xs : List ℕ) (offset size r s : ℕ) → NumberOf xs offset size r → NumberOf xs offset size s → r ≡ s
 one-number xs offset size r s a b = a ∙ sym b
-
--- its own refusal is 17
-abbrev pub OwnLookup : ℕ → Type 0
-OwnLookup k = k ≡ 17
 
 pub lookup-numbered : (xs : List ℕ) (offset size : ℕ) → Numbered xs OwnLookup (settingNumber xs offset size) 0
 unfolding settingNumber

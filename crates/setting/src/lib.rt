@@ -1,6 +1,8 @@
 // Document 01, "One setting".
+use answers::Found;
 ghost use mathlib.Core.Path.{_≡_};
 ghost use Rattle.facts.specs.Fact.{Tells};
+ghost use Rattle.setting.specs.Finding.{Finds};
 ghost use Rattle.setting.specs.Setting.{settingFits, FoundIn, HandsBack, NumberOf};
 
 // Rule 17 for one setting.
@@ -58,4 +60,24 @@ pub fn setting_number(image: &[u8], offset: u64, size: u64) -> u32
         return 17;
     }
     0
+}
+
+// Where in the image the setting stands: the place of its part, for who has the image and no part of it.
+pub fn find(image: &[u8], offset: u64, size: u64) -> Found
+    ensures { λ r. ⌜ Finds (now (image .entry)) offset size r ⌝ }
+{
+    let number = setting_number(image, offset, size);
+    if number != 0 {
+        return Found {
+            number,
+            place: 0,
+            length: 0,
+        };
+    }
+    let r = reading::read(image);
+    Found {
+        number,
+        place: r.c as u64 + offset,
+        length: size,
+    }
 }

@@ -4,7 +4,7 @@ use Prim.Native.Nat.{ℕ}
 use mathlib.Core.List.{List}
 use mathlib.Core.Path.{_≡_, sym, _∙_}
 use Rattle.facts.specs.Rules.{answer, rule, run}
-use Rattle.reading_rules.specs.declared.Identity.{Identity}
+use Rattle.answers.specs.declared.Identity.{Identity}
 use Rattle.sheet.specs.declared.SheetReading.{SheetReading}
 use Rattle.sheet.specs.Sheet.{sheetIdentity, count, sheetFits}
 

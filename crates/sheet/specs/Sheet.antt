@@ -5,7 +5,7 @@ use mathlib.Core.List.{List}
 use lib.ListN.{length}
 use Rattle.facts.specs.Fact.{Fact, Holds, _≤?_, _≡?_, _and_, every}
 use Rattle.words.specs.Le.{le}
-use Rattle.reading_rules.specs.declared.Identity.{Identity}
+use Rattle.answers.specs.declared.Identity.{Identity}
 use Rattle.sheet.specs.declared.Entry.{Entry}
 
 -- for which image it is

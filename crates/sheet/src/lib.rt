@@ -1,5 +1,5 @@
 // Document 01, "The release sheet".
-use reading_rules::Identity;
+use answers::Identity;
 ghost use mathlib.Core.Path.{_≡_};
 ghost use Prim.Native.Nat.{_+_, _-_, _*_, _≤_, _<_};
 ghost use lib.ListN.{length};

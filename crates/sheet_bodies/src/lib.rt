@@ -1,11 +1,11 @@
 // Document 01, "The release sheet": the bodies of its entries set in an image.
-use reading_rules::Reading;
+use answers::Reading;
 ghost use mathlib.Core.Path.{_≡_};
 ghost use Prim.Native.Nat.{_+_, _-_, _≤_, _<_};
 ghost use lib.ListN.{length};
 ghost use Rattle.reading_rules.specs.Guarantee.{Guaranteed};
 ghost use Rattle.sheet.specs.Sheet.{Sound, count, offset, size, position};
-ghost use Rattle.sheet.specs.Set.{copied, written, setBy};
+ghost use Rattle.sheet_bodies.specs.Set.{copied, written, setBy};
 
 // Copies n bytes of the sheet from `from` on to `at`.
 fn copy_body(part: &mut [u8], at: usize, sheet: &[u8], from: usize, n: usize)

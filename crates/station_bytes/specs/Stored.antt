@@ -6,7 +6,7 @@ use mathlib.Core.List.{List}
 use Rattle.facts.specs.Fact.{_≤?_, test}
 use Rattle.words.specs.Le.{le}
 use Rattle.words.specs.Put.{put}
-use Rattle.reading_rules.specs.After.{unlessRefused}
+use Rattle.answers.specs.After.{unlessRefused}
 use Rattle.station_order.specs.declared.Answer.{Answer}
 use Rattle.station_order.specs.Order.{ordered}
 

@@ -5,10 +5,11 @@ use mathlib.Core.List.{List}
 use mathlib.Core.Path.{_≡_, sym, ap, _∙_}
 use native.Mathlib.Omega.{arith}
 use native.Mathlib.Decide.{decLt}
-use Rattle.facts.specs.Fact.{_≤?_, passes, fails}
+use Rattle.facts.specs.Fact.{_≤?_}
+use Rattle.facts.specs.FactLaws.{passes, fails}
 use Rattle.words.specs.Le.{le}
 use Rattle.words.specs.Put.{put}
-use Rattle.reading_rules.specs.After.{changed-so, kept-so}
+use Rattle.answers.specs.AfterLaws.{changed-so, kept-so}
 use Rattle.station_order.specs.declared.Answer.{Answer}
 use Rattle.station_order.specs.Order.{ordered}
 use Rattle.station_order.specs.OrderLaws.{other-number, other-refused}

@@ -8,8 +8,9 @@ use Rattle.facts.specs.Fact.{test}
 use Rattle.station_order.specs.Order.{tempRamInit, memoryInit, tempRamExit, siliconInit, notifyPhase}
 use Rattle.station_order.specs.Order.{atReset, withTempRam, notifiedF0, none, noted, byRows, ordered}
 use Rattle.station_logs.specs.Log.{Call, after, answers, NoRefusal, called, reset, logAfter, logAnswers}
-use Rattle.station_logs.specs.Grammar.{fromReset, exact}
-use Rattle.station_logs.specs.Theorems.{boots}
+use Rattle.station_logs.specs.Grammar.{fromReset}
+use Rattle.station_logs.specs.GrammarHolds.{exact}
+use Rattle.station_logs.specs.Said.{boots}
 
 abbrev pub call : ℕ → Call
 call k = record { call = k; notification = none }

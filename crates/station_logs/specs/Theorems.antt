@@ -13,13 +13,9 @@ use Rattle.station.specs.declared.Station.{Station}
 use Rattle.station.specs.Station.{standing}
 use Rattle.station_logs.specs.Log.{Call, made, next, Accepts, Same, after, answers, Zeros}
 use Rattle.station_logs.specs.Log.{Entry, called, reset, turn, logAfter, logAnswers, Runs, none, by-call, by-reset}
-use Rattle.station_logs.specs.Grammar.{Notifies, fromReset, exact}
-
--- ---- the record after any sequence of calls and resets is the fold of the step, and the answers are the steps'
-
-pub record Folds (s : Station) (l : List Entry) (rs : List ℕ) (u : Station) : Type 0 where
-  pub record-is : u ≡ standing (logAfter (s .state) l)
-  pub answers-are : rs ≡ logAnswers (s .state) l
+use Rattle.station_logs.specs.Grammar.{Notifies}
+use Rattle.station_logs.specs.GrammarHolds.{exact}
+use Rattle.station_logs.specs.Said.{AsIfNotMade, EachFromReset, Ended, Folds, boots}
 
 pub folded : {s u : Station} {l : List Entry} {rs : List ℕ} → Runs s l rs u → Folds s l rs u
 unfolding logAnswers
@@ -55,11 +51,6 @@ pub answers-append : (state : ℕ) (l m : List Call) → answers state (l ++ m) 
 unfolding answers
 answers-append state [] m = refl
 answers-append state (c ∷ l) m = rw (answers-append (next state c) l m)
-
-pub record AsIfNotMade (state : ℕ) (l : List Call) (c : Call) (m : List Call) : Type 0 where
-  pub with-it : answers state (l ++ (c ∷ m)) ≡ answers state l ++ (made (after state l) c .number ∷ answers (after state l) m)
-  pub without : answers state (l ++ m) ≡ answers state l ++ answers (after state l) m
-  pub same-state : after state (l ++ (c ∷ m)) ≡ after state (l ++ m)
 
 pub as-if-not-made : (state : ℕ) (l : List Call) (c : Call) (m : List Call) → (Accepts (after state l) c → ⊥) → AsIfNotMade state l c m
 unfolding answers
@@ -138,27 +129,12 @@ stays-last : (m : List Call) → after notifiedF0 m ≡ notifiedF0
 stays-last [] = refl
 stays-last (d ∷ m) = rw (stays notifiedF0 d (nothing-more d)) (stays-last m)
 
-pub record Ended (state : ℕ) : Type 0 where
-  pub last : state ≡ notifiedF0
-  pub refused : (d : Call) → Accepts state d → ⊥
-  pub but-reset : turn state reset ≡ atReset
-
 -- c, the last notification, is accepted after the calls l; then, whatever calls m are made
 pub ended : (state : ℕ) (l m : List Call) (c : Call) → Accepts (after state l) c → Notifies 0xF0 c → Ended (after state (l ++ (c ∷ m)))
 ended state l m c ok is =
     let e : after state (l ++ (c ∷ m)) ≡ after (next (after state l) c) m = foldl-append next state l (c ∷ m) in
     let n : next (after state l) c ≡ notifiedF0 = last-state (after state l) c ok is in
     rw (e, n, stays-last m) (record { last = refl; refused = nothing-more; but-reset = refl })
-
--- ---- a log of several boots, a reset before each
-
-abbrev pub boots : List (List Call) → List Entry
-boots [] = []
-boots (l ∷ ls) = reset ∷ (map called l ++ boots ls)
-
-abbrev pub EachFromReset : List (List Call) → Type 0
-EachFromReset [] = Unit {0}
-EachFromReset (l ∷ ls) = fromReset l × EachFromReset ls
 
 zeros-join : (a b : List ℕ) → Zeros a → Zeros b → Zeros (a ++ b)
 zeros-join [] b za zb = zb

@@ -5,8 +5,9 @@ use mathlib.Core.Bool.{Bool, true, false, cond, _&&_}
 use mathlib.Core.List.{List, [], _∷_}
 use mathlib.Core.Path.{_≡_, refl, sym, _∙_}
 use native.Mathlib.Omega.{arith}
-use Rattle.facts.specs.Fact.{Fact, _≤?_, _≡?_, Holds, Tells, is-test, test, holds, fails, fails-not}
-use Rattle.facts.specs.Rules.{and-left, and-right, by-cond, by-test}
+use Rattle.facts.specs.Fact.{Fact, _≤?_, _≡?_, Holds, Tells, test}
+use Rattle.facts.specs.FactLaws.{is-test, holds, fails, fails-not}
+use Rattle.facts.specs.RulesLaws.{and-left, and-right, by-cond, by-test}
 use Rattle.station_order.specs.declared.Answer.{Answer}
 use Rattle.station_order.specs.Order.{Row, table, noted, ofCall, inState, some, refusal, accepted, byRows, ordered}
 

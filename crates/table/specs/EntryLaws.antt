@@ -5,8 +5,9 @@ use mathlib.Core.Path.{_≡_, refl}
 use native.Mathlib.Omega.{arith}
 use borrow.Author.Tests.{eqb-true, eqb-false}
 use lib.Dec.{eqb}
-use Rattle.facts.specs.Fact.{_≤?_, Holds, passes, fails}
-use Rattle.facts.specs.Rules.{by-cond, by-test}
+use Rattle.facts.specs.Fact.{_≤?_, Holds}
+use Rattle.facts.specs.FactLaws.{passes, fails}
+use Rattle.facts.specs.RulesLaws.{by-cond, by-test}
 use Rattle.table.specs.declared.Place.{Place}
 use Rattle.table.specs.Entry.{refusedPlace, typeFits, reservedFits, fitted, placeOf}
 

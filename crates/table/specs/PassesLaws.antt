@@ -6,8 +6,9 @@ use mathlib.Core.Path.{_≡_}
 use native.Mathlib.Omega.{arith}
 use native.Mathlib.Nat.{add-assoc}
 use lib.ListN.{length}
-use Rattle.facts.specs.Fact.{same-test}
-use Rattle.facts.specs.First.{firstFault, first-cong}
+use Rattle.facts.specs.FactLaws.{same-test}
+use Rattle.facts.specs.First.{firstFault}
+use Rattle.facts.specs.FirstLaws.{first-cong}
 use Rattle.words.specs.Le.{le, Alike}
 use Rattle.words.specs.LeLaws.{le-cong}
 use Rattle.table.specs.EntryLaws.{Placed, placed}

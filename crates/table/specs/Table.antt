@@ -5,10 +5,6 @@ use mathlib.Core.List.{List}
 use Rattle.facts.specs.Fact.{Fact, _≤?_, _≡?_, _and_}
 use Rattle.words.specs.Le.{le}
 
--- rounding up to a multiple of 4
-abbrev pub round4 : ℕ → ℕ
-round4 n = (n + 3) / 4 * 4
-
 -- `FSPE` stands at p
 abbrev pub extended : List ℕ → ℕ → ℕ → Fact
 extended xs p end = p + 4 ≤? end and le 4 xs p ≡? 0x45505346

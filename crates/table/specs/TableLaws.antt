@@ -4,7 +4,8 @@ use Prim.Native.Nat.{ℕ, _+_, _≤_}
 use mathlib.Core.List.{List}
 use mathlib.Core.Path.{_≡_}
 use native.Mathlib.Omega.{arith}
-use Rattle.facts.specs.Fact.{test, same-test}
+use Rattle.facts.specs.Fact.{test}
+use Rattle.facts.specs.FactLaws.{same-test}
 use Rattle.words.specs.Le.{le, Alike}
 use Rattle.words.specs.LeLaws.{le-in}
 use Rattle.table.specs.Table.{extended, extendedFits, patchFits}

@@ -3,8 +3,8 @@
 ghost use mathlib.Core.Path.{_≡_};
 ghost use Prim.Native.Nat.{_+_, _*_, _≤_};
 ghost use lib.ListN.{length};
+ghost use Rattle.words.specs.Round.{round4};
 ghost use Rattle.facts.specs.Fact.{Tells};
-ghost use Rattle.table.specs.Table.{round4};
 ghost use Rattle.table.specs.Entry.{typeFits, reservedFits, refusedPlace, fitted, placeOf, Points};
 ghost use Rattle.table.specs.Passes.{place};
 

@@ -7,7 +7,8 @@ use native.Mathlib.Omega.{arith}
 use native.Mathlib.Numerals.{add-one}
 use lib.ListN.{length, getD, take}
 use lib.Seq.{take-suc}
-use Rattle.facts.specs.Fact.{_≤?_, passes, fails}
+use Rattle.facts.specs.Fact.{_≤?_}
+use Rattle.facts.specs.FactLaws.{passes, fails}
 use Rattle.text_lines.specs.Text.{ascii}
 use Rattle.text_lines.specs.Lines.{line}
 use Rattle.text_answer.specs.Told.{placeLine, placeLines}

@@ -6,7 +6,7 @@ use mathlib.Core.List.{List, [], _∷_, _++_}
 use Rattle.facts.specs.Fact.{_≤?_, _≡?_, test}
 use Rattle.text_lines.specs.Text.{ascii}
 use Rattle.text_lines.specs.Lines.{line, hexLine}
-use Rattle.audit.specs.declared.Audited.{Audited}
+use Rattle.answers.specs.declared.Audited.{Audited}
 
 -- the base, and the three counts
 abbrev pub heading : ℕ → ℕ → ℕ → ℕ → List ℕ

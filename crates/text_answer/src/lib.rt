@@ -1,5 +1,5 @@
 // The text of an audit's answer, into a lent buffer.
-use audit::Audited;
+use answers::Audited;
 ghost use Prim.Native.Nat.{_+_, _*_, _≤_, _<_};
 ghost use lib.ListN.{length, take};
 ghost use Rattle.text_lines.specs.Lines.{Wrote};

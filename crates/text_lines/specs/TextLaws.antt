@@ -8,7 +8,8 @@ use native.Mathlib.Omega.{arith}
 use native.Mathlib.Decide.{decLe}
 use native.Mathlib.Nat.{pow-suc}
 use lib.ListN.{length, getD, length-append, List·getD-append}
-use Rattle.facts.specs.Fact.{_≤?_, test, passes, fails}
+use Rattle.facts.specs.Fact.{_≤?_, test}
+use Rattle.facts.specs.FactLaws.{passes, fails}
 use Rattle.text_lines.specs.Text.{ascii, digit, hexDigit, digits, decimal, hexDigits}
 
 -- one digit, and one more

@@ -7,9 +7,10 @@ use native.Mathlib.Omega.{arith}
 use native.Mathlib.Nat.{zero-add}
 use lib.ListN.{length, take, drop}
 use lib.Seq.{sets, sets-eq, take-at, take-length}
-use Rattle.facts.specs.Fact.{_≤?_, _≡?_, passes, fails}
+use Rattle.facts.specs.Fact.{_≤?_, _≡?_}
+use Rattle.facts.specs.FactLaws.{passes, fails}
 use Rattle.reading_rules.specs.Reading.{reading}
-use Rattle.reading_rules.specs.After.{changed-so}
+use Rattle.answers.specs.AfterLaws.{changed-so}
 use Rattle.audit_count.specs.Differences.{entries, settings, strays}
 use Rattle.audit_count.specs.DifferenceLaws.{counts, length-entries}
 use Rattle.audit.specs.Audit.{differing, tally, auditing, listed}

@@ -14,7 +14,7 @@ use Rattle.text_lines.specs.Text.{ascii, digits, decimal, hexDigit, hexDigits}
 use Rattle.facts.specs.Rules.{run}
 use Rattle.reading_rules.specs.Reading.{rules, reading}
 use Rattle.reading_rules.specs.Guarantee.{guaranteed}
-use Rattle.audit.specs.declared.Audited.{Audited}
+use Rattle.answers.specs.declared.Audited.{Audited}
 use Rattle.audit.specs.Audit.{refusedAudit}
 use Rattle.audit.specs.AuditLaws.{audit-unread, audit-unpaired}
 use Rattle.text_answer.specs.Told.{refusal, placeLine, placeLines, verdict, reportText}

@@ -31,10 +31,6 @@ volumeFits xs h v =
 abbrev pub extensionFits : List ℕ → ℕ → ℕ → ℕ → Fact
 extensionFits xs h v x = let e = le 4 xs (x + 16) in h ≤? x and x + 20 ≤? v and 20 ≤? e and x + e ≤? v
 
--- rounding up to a multiple of 8
-abbrev pub round8 : ℕ → ℕ
-round8 n = (n + 7) / 8 * 8
-
 -- the 16 bytes of g stand at `at`
 abbrev pub sameAt : List ℕ → ℕ → List ℕ → Fact
 sameAt xs at g = every 16 (λ i. getD xs (at + i) 0 ≡? getD g i 0)
@@ -69,18 +65,25 @@ sumBytes xs at (suc n) = sumBytes xs at n + le 1 xs (at + n)
 unfoldable pub fileSum : List ℕ → ℕ → ℕ
 fileSum xs f = sumBytes xs f 17 + sumBytes xs (f + 18) 5
 
--- 3 FILE: its header lies in the volume and bears the header file's name; it isn't a large file; its header adds up to 0; it has room for
--- a section's header and ends in the volume
-abbrev pub fileFits : List ℕ → ℕ → ℕ → Fact
-fileFits xs v f =
+-- 3 FILE and request #107, what any file has: its header lies in the volume, isn't a large file's and adds up to 0; it has at least so many
+-- bytes and ends in the volume
+abbrev pub fileHeld : List ℕ → ℕ → ℕ → ℕ → Fact
+fileHeld xs v f least =
     let s = le 3 xs (f + 20) in
     f + 24 ≤? v
-    and sameAt xs f guid
     and le 1 xs (f + 19) % 2 ≡? 0
     and fileSum xs f % 256 ≡? 0
-    and 28 ≤? s
+    and least ≤? s
     and f + s ≤? v
 
--- 4 SECTION: a raw section that has room for the header and ends in the file
+-- 3 FILE: it bears the header file's name and has room for a section's header
+abbrev pub fileFits : List ℕ → ℕ → ℕ → Fact
+fileFits xs v f = sameAt xs f guid and fileHeld xs v f 28
+
+-- 4 SECTION and request #107, what any section has: its 4 bytes of header and at least so many in all, and it ends in the file
+abbrev pub sectionHeld : List ℕ → ℕ → ℕ → ℕ → Fact
+sectionHeld xs end p least = p + 4 ≤? end and least ≤? le 3 xs p and p + le 3 xs p ≤? end
+
+-- 4 SECTION, of a file of s bytes: raw, with room for the header
 abbrev pub sectionFits : List ℕ → ℕ → ℕ → Fact
-sectionFits xs f s = let size = le 3 xs (f + 24) in le 1 xs (f + 27) ≡? 0x19 and 76 ≤? size and size ≤? s - 24
+sectionFits xs f s = le 1 xs (f + 27) ≡? 0x19 and sectionHeld xs (f + s) (f + 24) 76

@@ -5,7 +5,8 @@ use mathlib.Core.List.{List}
 use mathlib.Core.Path.{_≡_, refl, sym, _∙_}
 use native.Mathlib.Omega.{arith}
 use lib.ListN.{length, getD}
-use Rattle.facts.specs.Fact.{test, Holds, same-test}
+use Rattle.facts.specs.Fact.{test, Holds}
+use Rattle.facts.specs.FactLaws.{same-test}
 use Rattle.words.specs.Le.{le, Alike}
 use Rattle.words.specs.LeLaws.{le-in}
 use Rattle.volume.specs.Volume.{lengthFits, sumWords, volumeFits, extensionFits, sumBytes, fileSum, fileFits, sectionFits, guid}
@@ -40,18 +41,12 @@ module _ (a b : List ℕ) where
       rw (sum-bytes f 17 17 (omega arith) low, sum-bytes (f + 18) 5 5 (omega arith) high) in
       same-test (fileFits a v f) (fileFits b v f)
       (λ h. (
-        h .0,
-        (
-          (λ i l. sym (low .same i (omega arith)) ∙ h .1 .0 i l),
-          (rw attribute at (h .1 .1 .0), (rw sum at (h .1 .1 .1 .0), rw size at (h .1 .1 .1 .1))),
-        ),
+        (λ i l. sym (low .same i (omega arith)) ∙ h .0 i l),
+        (h .1 .0, (rw attribute at (h .1 .1 .0), (rw sum at (h .1 .1 .1 .0), rw size at (h .1 .1 .1 .1)))),
       ))
       (λ h. (
-        h .0,
-        (
-          (λ i l. low .same i (omega arith) ∙ h .1 .0 i l),
-          (rw attribute (h .1 .1 .0), (rw sum (h .1 .1 .1 .0), rw size (h .1 .1 .1 .1))),
-        ),
+        (λ i l. low .same i (omega arith) ∙ h .0 i l),
+        (h .1 .0, (rw attribute (h .1 .1 .0), (rw sum (h .1 .1 .1 .0), rw size (h .1 .1 .1 .1)))),
       ))
 
   -- bytes f+24..f+27

@@ -2,8 +2,9 @@
 ghost use mathlib.Core.Path.{_≡_};
 ghost use Prim.Native.Nat.{_≤_, _<_};
 ghost use lib.ListN.{length};
+ghost use Rattle.words.specs.Round.{round8};
 ghost use Rattle.facts.specs.Fact.{Tells};
-ghost use Rattle.volume.specs.Volume.{extensionFits, round8};
+ghost use Rattle.volume.specs.Volume.{extensionFits};
 
 // Rule 2, where x is not 0.
 pub fn extension_fits(image: &[u8], h: usize, v: usize, x: usize) -> bool

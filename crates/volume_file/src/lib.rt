@@ -3,7 +3,7 @@ ghost use mathlib.Core.Path.{_≡_};
 ghost use Prim.Native.Nat.{_+_, _*_, _≤_};
 ghost use lib.ListN.{length};
 ghost use Rattle.facts.specs.Fact.{Tells};
-ghost use Rattle.volume.specs.Volume.{sameAt, guid, sumBytes, fileSum, fileFits, sectionFits};
+ghost use Rattle.volume.specs.Volume.{sameAt, guid, sumBytes, fileSum, fileHeld, fileFits, sectionHeld, sectionFits};
 
 // The header file's GUID, as it is stored.
 const GUID: [u8; 16] = [
@@ -69,15 +69,12 @@ pub fn file_sum(image: &[u8], f: usize) -> usize
     sum_bytes(image, f, 17) + sum_bytes(image, f + 18, 5)
 }
 
-// Rule 3.
-pub fn file_fits(image: &[u8], v: usize, f: usize) -> bool
+// What rule 3 and request #107 want of any file, of at least so many bytes.
+pub fn file_held(image: &[u8], v: usize, f: usize, least: usize) -> bool
     requires { ⌜ (v ≤ length (now image)) × (f ≤ 33554432) ⌝ }
-    ensures { λ r. ⌜ Tells r (fileFits (now (image .entry)) v f) ⌝ }
+    ensures { λ r. ⌜ Tells r (fileHeld (now (image .entry)) v f least) ⌝ }
 {
     if v < f + 24 {
-        return false;
-    }
-    if !is_guid(image, f) {
         return false;
     }
     if words::byte(image, f + 19) % 2 != 0 {
@@ -87,7 +84,7 @@ pub fn file_fits(image: &[u8], v: usize, f: usize) -> bool
         return false;
     }
     let s = words::le24(image, f + 20);
-    if s < 28 {
+    if s < least {
         return false;
     }
     if v < f + s {
@@ -96,19 +93,47 @@ pub fn file_fits(image: &[u8], v: usize, f: usize) -> bool
     true
 }
 
+// Rule 3.
+pub fn file_fits(image: &[u8], v: usize, f: usize) -> bool
+    requires { ⌜ (v ≤ length (now image)) × (f ≤ 33554432) ⌝ }
+    ensures { λ r. ⌜ Tells r (fileFits (now (image .entry)) v f) ⌝ }
+{
+    if !file_held(image, v, f, 28) {
+        return false;
+    }
+    if !is_guid(image, f) {
+        return false;
+    }
+    true
+}
+
+// What rule 4 and request #107 want of any section, of at least so many bytes.
+pub fn section_held(image: &[u8], end: usize, p: usize, least: usize) -> bool
+    requires { ⌜ (end ≤ length (now image)) × (p ≤ 33554432) ⌝ }
+    ensures { λ r. ⌜ Tells r (sectionHeld (now (image .entry)) end p least) ⌝ }
+{
+    if end < p + 4 {
+        return false;
+    }
+    let size = words::le24(image, p);
+    if size < least {
+        return false;
+    }
+    if end < p + size {
+        return false;
+    }
+    true
+}
+
 // Rule 4.
 pub fn section_fits(image: &[u8], f: usize, s: usize) -> bool
-    requires { ⌜ (28 ≤ s) × (f + s ≤ length (now image)) ⌝ }
+    requires { ⌜ (28 ≤ s) × (f + s ≤ length (now image)) × (f ≤ 16777216) ⌝ }
     ensures { λ r. ⌜ Tells r (sectionFits (now (image .entry)) f s) ⌝ }
 {
     if words::byte(image, f + 27) != 0x19 {
         return false;
     }
-    let size = words::le24(image, f + 24);
-    if size < 76 {
-        return false;
-    }
-    if s - 24 < size {
+    if !section_held(image, f + s, f + 24, 76) {
         return false;
     }
     true

@@ -1,7 +1,7 @@
 use borrow.Author.Needs.{needs}
-use Rattle.facts.specs.Fact.{holds, is-test}
+use Rattle.facts.specs.FactLaws.{holds, is-test}
 use Rattle.inside_judge.specs.Rules.{patchItems}
-use Rattle.inside_walk.specs.Whole.{far}
+use Rattle.inside_walk.specs.WholeWalk.{far}
 use Rattle.apart_marks.specs.MarksLaws.{marks-none}
 use Rattle.apart_windows.specs.Windows.{Going}
 use Rattle.apart_windows.specs.RunsLaws.{at-hand}

@@ -2,12 +2,12 @@ use Rattle.audit.specs.AuditLaws.{audit-accepted, fits, small, walked, u
 use Rattle.audit.specs.Audit.{differing, auditing, listed}
 use Rattle.audit_count.specs.Differences.{differences, entries}
 use Rattle.audit_step.specs.Stride.{by}
-use Rattle.move_image.specs.Moves.{difference}
-use Rattle.reading_rules.specs.After.{changed-so}
+use Rattle.moves.specs.Moves.{difference}
+use Rattle.answers.specs.AfterLaws.{changed-so}
 use Rattle.reading_rules.specs.Guarantee.{guaranteed}
 use Rattle.reading_rules.specs.Reading.{reading}
-use Rattle.reading_rules.specs.declared.Reading.{Reading}
-use Rattle.facts.specs.Fact.{granted, refuted}
+use Rattle.answers.specs.declared.Reading.{Reading}
+use Rattle.facts.specs.FactLaws.{granted, refuted}
 use lib.Seq.{sets}
 use lib.ListN.{length}
 use Prim.Native.Nat.{ℕ, _^_, _<_}

@@ -1,7 +1,7 @@
 use Rattle.audit.specs.AuditLaws.{audit-unread, audit-unpaired, audit-illegal, audit-told}
 use Rattle.audit.specs.Audit.{shippedBase}
 use Rattle.reading_rules.specs.Guarantee.{guaranteed}
-use Rattle.facts.specs.Fact.{granted, refuted}
+use Rattle.facts.specs.FactLaws.{granted, refuted}
 use lib.ListN.{length}
 use Prim.Native.Nat.{_+_, _≤_}
 use mathlib.Core.Path.{_≡_, sym, _∙_}

@@ -3,10 +3,10 @@ use Rattle.audit_count.specs.DifferenceLaws.{counts, few}
 use Rattle.audit_step.specs.Stride.{by}
 use Rattle.audit.specs.Audit.{shippedBase, reference}
 use Rattle.audit_count.specs.Differences.{differences, countsOf}
-use Rattle.move_image.specs.Moves.{difference}
+use Rattle.moves.specs.Moves.{difference}
 use Rattle.reading_rules.specs.Guarantee.{Guaranteed, guaranteed}
 use Rattle.reading_rules.specs.Reading.{reading}
-use Rattle.reading_rules.specs.declared.Reading.{Reading}
+use Rattle.answers.specs.declared.Reading.{Reading}
 use lib.ListN.{length}
 use Prim.Native.Nat.{_+_, _≤_}
 use mathlib.Core.Path.{_≡_, sym, ap, _∙_}

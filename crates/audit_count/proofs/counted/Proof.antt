@@ -1,4 +1,4 @@
-use Rattle.facts.specs.Fact.{is-test}
+use Rattle.facts.specs.FactLaws.{is-test}
 use mathlib.Core.Path.{sym, _∙_}
 use borrow.Author.Needs.{needs}
 use Rattle.audit_count.proofs.counted.Statement.{statement}

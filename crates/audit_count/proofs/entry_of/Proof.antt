@@ -1,5 +1,5 @@
 use Rattle.audit_count.specs.Differences.{entry}
-use Rattle.facts.specs.Fact.{is-test}
+use Rattle.facts.specs.FactLaws.{is-test}
 use mathlib.Core.Path.{sym, _∙_}
 use borrow.Author.Needs.{needs}
 use Rattle.audit_count.proofs.entry_of.Statement.{statement}

@@ -1,5 +1,5 @@
 use Rattle.inside_walk.specs.declared.Spot.{Spot}
-use Rattle.inside_walk.specs.Whole.{ahead, far, Valid}
+use Rattle.inside_walk.specs.WholeWalk.{ahead, far, Valid}
 use Rattle.inside_walk.specs.Entries.{pastOf, count-most, entries-within, past-valid, past-far}
 use Rattle.audit_fill_window.specs.Near.{Passed, Filling}
 use Rattle.audit_fill_window.specs.NearLaws.{passed-start, passed-next, passed-entries, kept-on}

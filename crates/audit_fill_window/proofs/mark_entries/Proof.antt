@@ -3,7 +3,7 @@ use mathlib.Core.Logic.{inl, inr}
 use mathlib.Core.Path.{_≡_, refl, sym, _∙_}
 use native.Mathlib.Omega.{arith}
 use borrow.Author.Needs.{needs}
-use Rattle.facts.specs.Fact.{holds, is-test}
+use Rattle.facts.specs.FactLaws.{holds, is-test}
 use Rattle.inside_pages.specs.PagesLaws.{paged-own}
 use Rattle.inside_blocks.specs.Blocks.{entriesFrom}
 use Rattle.audit_fill_window.specs.Near.{Has}

@@ -1,5 +1,5 @@
 use Rattle.inside_walk.specs.declared.Spot.{Spot}
-use Rattle.inside_walk.specs.Whole.{far}
+use Rattle.inside_walk.specs.WholeWalk.{far}
 use Rattle.inside_walk.specs.Entries.{pastOf, count-most, entries-within, past-far}
 use Rattle.audit_fill_window.specs.Near.{Passed}
 use Rattle.audit_fill_window.specs.NearLaws.{passed-start, passed-next, passed-entries, sought-end, sought-here}

@@ -1,10 +1,10 @@
 use Rattle.contents.specs.Listing.{entriesFor, listing, contents, contentsIn}
 use Rattle.contents.specs.ListingLaws.{list-accepted}
 use Rattle.contents.specs.Theorems.{contents-kept}
-use Rattle.reading_rules.specs.After.{changed-so}
+use Rattle.answers.specs.AfterLaws.{changed-so}
 use Rattle.reading_rules.specs.Guarantee.{guaranteed}
 use Rattle.reading_rules.specs.Reading.{reading}
-use Rattle.reading_rules.specs.declared.Reading.{Reading}
+use Rattle.answers.specs.declared.Reading.{Reading}
 use Rattle.words.specs.Put.{putAll}
 use lib.ListN.{length}
 use Prim.Native.Nat.{_*_, _≤_}

@@ -1,6 +1,7 @@
 use Rattle.facts.specs.Rules.{run}
 use native.Mathlib.Omega.{arith}
-use Rattle.facts.specs.Fact.{_≤?_, _≡?_, _and_, passes, fails, yes, no, granted}
+use Rattle.facts.specs.Fact.{_≤?_, _≡?_, _and_}
+use Rattle.facts.specs.FactLaws.{passes, fails, yes, no, granted}
 use Rattle.handoff_step.specs.Step.{refusal, shown, resourceAt, fromResource, fromGuid, fromEnd, fromLater, fromFirst, fromHead, stepRules, stepped}
 use Rattle.handoff_list.specs.Passing.{brief, brief-cond}
 use borrow.Author.Needs.{needs}

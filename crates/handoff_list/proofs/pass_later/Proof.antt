@@ -3,7 +3,8 @@ use native.Mathlib.Omega.{arith}
 use Prim.Native.Nat.{_+_, _-_}
 use mathlib.Core.Path.{sym, _∙_}
 use Rattle.handoff_step.specs.declared.Kind.the-variants.{Guid, End}
-use Rattle.facts.specs.Fact.{_≤?_, _≡?_, test, passes, fails}
+use Rattle.facts.specs.Fact.{_≤?_, _≡?_, test}
+use Rattle.facts.specs.FactLaws.{passes, fails}
 use Rattle.handoff_step.specs.Step.{refusal, shown, resourceAt, fromResource, fromGuid, fromEnd, fromLater, fromFirst, fromHead, stepRules, stepped}
 use Rattle.handoff_list.specs.Passing.{brief, brief-cond}
 use borrow.Author.Needs.{needs}

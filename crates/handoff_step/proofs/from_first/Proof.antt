@@ -1,5 +1,6 @@
 use Rattle.facts.specs.Rules.{run}
-use Rattle.facts.specs.Fact.{_≡?_, _and_, passes, fails}
+use Rattle.facts.specs.Fact.{_≡?_, _and_}
+use Rattle.facts.specs.FactLaws.{passes, fails}
 use Rattle.handoff_step.specs.Step.{fromFirst}
 use borrow.Author.Needs.{needs}
 use Rattle.handoff_step.proofs.from_first.Statement.{statement}

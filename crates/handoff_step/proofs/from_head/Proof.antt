@@ -1,6 +1,7 @@
 use Rattle.facts.specs.Rules.{run}
 use native.Mathlib.Omega.{arith}
-use Rattle.facts.specs.Fact.{_≡?_, passes, fails, yes, no, granted}
+use Rattle.facts.specs.Fact.{_≡?_}
+use Rattle.facts.specs.FactLaws.{passes, fails, yes, no, granted}
 use Rattle.handoff_step.specs.Step.{fromHead}
 use borrow.Author.Needs.{needs}
 use Rattle.handoff_step.proofs.from_head.Statement.{statement}

@@ -1,6 +1,7 @@
 use Rattle.facts.specs.Rules.{run}
 use native.Mathlib.Omega.{arith}
-use Rattle.facts.specs.Fact.{_≤?_, passes, fails}
+use Rattle.facts.specs.Fact.{_≤?_}
+use Rattle.facts.specs.FactLaws.{passes, fails}
 use Rattle.handoff_step.specs.Step.{fromResource}
 use borrow.Author.Needs.{needs}
 use Rattle.handoff_step.proofs.from_resource.Statement.{statement}

@@ -1,5 +1,5 @@
 use Rattle.header.specs.Header.{extendedNumber}
-use Rattle.facts.specs.Fact.{yes, no, granted}
+use Rattle.facts.specs.FactLaws.{yes, no, granted}
 use native.Mathlib.Omega.{arith}
 use borrow.Author.Needs.{needs}
 use Rattle.header.proofs.extended_number.Statement.{statement}

@@ -1,4 +1,4 @@
-use Rattle.facts.specs.Fact.{granted, refuted}
+use Rattle.facts.specs.FactLaws.{granted, refuted}
 use mathlib.Core.Logic.{_⊎_, inl, inr}
 use native.Mathlib.Omega.{arith}
 use borrow.Author.Needs.{needs}

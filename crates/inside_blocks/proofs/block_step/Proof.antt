@@ -1,6 +1,7 @@
 use Rattle.inside_blocks.specs.Blocks.{blockFits}
 use Rattle.inside_blocks.specs.BlocksLaws.{ahead-broken, ahead-block}
-use Rattle.facts.specs.Fact.{Holds, granted, refuted}
+use Rattle.facts.specs.Fact.{Holds}
+use Rattle.facts.specs.FactLaws.{granted, refuted}
 use mathlib.Core.Path.{_≡_, refl}
 use mathlib.Core.Logic.{inl, inr}
 use native.Mathlib.Omega.{arith}

@@ -1,7 +1,7 @@
 use mathlib.Core.Path.{sym, _∙_}
 use native.Mathlib.Omega.{arith}
 use borrow.Author.Needs.{needs}
-use Rattle.facts.specs.Fact.{holds, is-test}
+use Rattle.facts.specs.FactLaws.{holds, is-test}
 use Rattle.inside_blocks.specs.BlocksPaged.{item-on}
 use Rattle.inside_blocks.proofs.entry_on.Statement.{statement}
 use Rattle.inside_blocks.proofs.entry_on.Tie as tie

@@ -1,4 +1,4 @@
-use Rattle.inside_blocks.specs.Blocks.{startOf}
+use Rattle.inside_blocks.specs.BlocksWalk.{startOf}
 use borrow.Author.Needs.{needs}
 use Rattle.inside_blocks.proofs.start.Statement.{statement}
 use Rattle.inside_blocks.proofs.start.Tie as tie

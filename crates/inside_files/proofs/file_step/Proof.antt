@@ -1,6 +1,7 @@
 use Rattle.inside_files.specs.Parts.{free, fileFits}
 use Rattle.inside_files.specs.PartsLaws.{sections-at, ahead-free, ahead-broken, ahead-file}
-use Rattle.facts.specs.Fact.{Holds, granted, refuted, holds, fails-not, is-test}
+use Rattle.facts.specs.Fact.{Holds}
+use Rattle.facts.specs.FactLaws.{granted, refuted, holds, fails-not, is-test}
 use mathlib.Core.Path.{refl, sym, _∙_}
 use native.Mathlib.Omega.{arith}
 use borrow.Author.Needs.{needs}
@@ -13,7 +14,7 @@ used c = fails-not _ (sym (is-test (c .before .is-free .ensures)) ∙ c .if1 .le
 
 -- past the second: the file fits
 shown : (c : tie.Else2) → let a = c .before .before .before .before .before .args in Holds (fileFits (a .image .now) (a .v) (a .c .file))
-shown c = granted (c .before .file-fits .ensures) (c .if2 .left)
+shown c = granted (c .before .file-held .ensures) (c .if2 .left)
 
 is-free-requires : tie.Need-is-free-requires
 is-free-requires c κs = search needs
@@ -42,8 +43,8 @@ returns c =
       small = omega (arith, start .pre);
     })
 
-file-fits-requires : tie.Need-file-fits-requires
-file-fits-requires c κs = search needs
+file-held-requires : tie.Need-file-held-requires
+file-held-requires c κs = search needs
 
 last-requires-2 : tie.Need-last-requires-2
 last-requires-2 c κs = search needs
@@ -58,7 +59,7 @@ returns-2 c =
       ends = λ z. absurd (omega arith);
       goes = λ h.
           ahead-broken (a .image .now) (a .v) (a .c) _ (start .pre .3) (start .pre .4) (used (told .before .before))
-          (refuted (told .before .file-fits .ensures) (told .if2 .taken)) (omega arith) (omega arith);
+          (refuted (told .before .file-held .ensures) (told .if2 .taken)) (omega arith) (omega arith);
       less = λ h. omega (arith, start .pre);
       valid = record { within = omega arith; at-small = omega arith; file-small = omega (arith, start .pre) };
       inside = λ z. absurd (omega arith);
@@ -115,7 +116,7 @@ file-step-spec =
     sub-last
     last-requires
     returns
-    file-fits-requires
+    file-held-requires
     last-requires-2
     returns-2
     add-le24

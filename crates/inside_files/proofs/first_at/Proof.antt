@@ -1,5 +1,5 @@
 use Rattle.inside_files.specs.Parts.{firstAt, passedOver}
-use Rattle.facts.specs.Fact.{passes, fails}
+use Rattle.facts.specs.FactLaws.{passes, fails}
 use mathlib.Core.Logic.{inl, inr, ⊎-elim}
 use borrow.Author.Needs.{needs}
 use Rattle.inside_files.proofs.first_at.Statement.{statement}

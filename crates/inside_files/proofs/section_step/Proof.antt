@@ -1,6 +1,7 @@
 use Rattle.inside_files.specs.Parts.{sectionFits}
 use Rattle.inside_files.specs.PartsLaws.{ahead-section, ahead-cut}
-use Rattle.facts.specs.Fact.{Holds, granted, refuted}
+use Rattle.facts.specs.Fact.{Holds}
+use Rattle.facts.specs.FactLaws.{granted, refuted}
 use mathlib.Core.Path.{refl}
 use native.Mathlib.Omega.{arith}
 use borrow.Author.Needs.{needs}
@@ -9,10 +10,10 @@ use Rattle.inside_files.proofs.section_step.Tie as tie
 
 -- past the check: the section fits
 shown : (c : tie.Else1) → let a = c .before .before .before .args in Holds (sectionFits (a .image .now) (a .c .end) (a .c .at))
-shown c = granted (c .before .section-fits .ensures) (c .if1 .left)
+shown c = granted (c .before .section-held .ensures) (c .if1 .left)
 
-section-fits-requires : tie.Need-section-fits-requires
-section-fits-requires c κs = search needs
+section-held-requires : tie.Need-section-held-requires
+section-held-requires c κs = search needs
 
 returns : tie.Need-returns
 returns c =
@@ -22,7 +23,7 @@ returns c =
       ends = λ z. absurd (omega arith);
       goes = λ h.
           ahead-cut (a .image .now) (a .v) (a .c) _ (start .pre .3)
-          (refuted (c .before .section-fits .ensures) (c .if1 .taken)) refl (omega arith);
+          (refuted (c .before .section-held .ensures) (c .if1 .taken)) refl (omega arith);
       less = λ h. omega (arith, start .pre);
       valid = record { within = omega arith; at-small = omega arith; file-small = start .pre .2 .file-small };
       inside = λ z. absurd (omega arith);
@@ -72,7 +73,7 @@ pub section-step-spec : {M : Type 1} → statement M
 section-step-spec =
     tie.close
     (tie.spec
-    section-fits-requires
+    section-held-requires
     returns
     le24-requires
     add-byte

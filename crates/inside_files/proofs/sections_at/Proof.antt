@@ -1,5 +1,5 @@
 use Rattle.inside_files.specs.Parts.{sectionsAt, passedOver}
-use Rattle.facts.specs.Fact.{passes, fails}
+use Rattle.facts.specs.FactLaws.{passes, fails}
 use mathlib.Core.Logic.{inl, inr, ⊎-elim}
 use mathlib.Core.Path.{sym, _∙_}
 use native.Mathlib.Omega.{arith}

@@ -2,7 +2,7 @@ use borrow.Author.Needs.{needs}
 use Rattle.inside_judge.specs.Judges.{Judging}
 use Rattle.inside_judge.specs.JudgesLaws.{judges-none, judging-end, judging-next, judging-entries}
 use Rattle.inside_walk.specs.declared.Spot.{Spot}
-use Rattle.inside_walk.specs.Whole.{far}
+use Rattle.inside_walk.specs.WholeWalk.{far}
 use Rattle.inside_walk.specs.Walkable.{passing-first}
 use Rattle.inside_walk.specs.Entries.{pastOf, count-most, entries-within, past-far}
 use Rattle.words.specs.Le.{Bytes}

@@ -2,7 +2,7 @@ use Prim.Native.Nat.{_+_, _-_}
 use mathlib.Core.Path.{_≡_}
 use native.Mathlib.Omega.{arith}
 use borrow.Author.Needs.{needs}
-use Rattle.facts.specs.Fact.{granted}
+use Rattle.facts.specs.FactLaws.{granted}
 use Rattle.inside_pages.specs.PagesLaws.{paged-own}
 use Rattle.inside_judge.specs.RunsLaws.{on-join, entries-cut, gap-on}
 use Rattle.inside_judge.proofs.judge_entries.Statement.{statement}

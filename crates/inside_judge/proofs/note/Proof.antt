@@ -1,5 +1,5 @@
 use Rattle.inside_judge.specs.JudgesLaws.{ends-by}
-use Rattle.facts.specs.Fact.{is-test}
+use Rattle.facts.specs.FactLaws.{is-test}
 use mathlib.Core.Path.{_∙_}
 use borrow.Author.Needs.{needs}
 use Rattle.inside_judge.proofs.note.Statement.{statement}

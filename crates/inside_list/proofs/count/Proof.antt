@@ -1,5 +1,5 @@
 use Rattle.inside_list.specs.Counting.{Counting, counting-first, counting-room, counting-end, counting-next, step-fits}
-use Rattle.inside_files.specs.Parts.{far}
+use Rattle.inside_files.specs.PartsWalk.{far}
 use Rattle.words.specs.Le.{Bytes}
 use native.Mathlib.Omega.{arith}
 use Rattle.inside_list.proofs.count.Statement.{statement}

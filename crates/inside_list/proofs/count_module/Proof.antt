@@ -1,6 +1,6 @@
 use Rattle.inside_list.specs.Counting.{counts-one, counts-none}
 use Rattle.inside_list.specs.Few.{words-few}
-use Rattle.facts.specs.Fact.{granted, refuted}
+use Rattle.facts.specs.FactLaws.{granted, refuted}
 use Prim.Native.Nat.{_<_}
 use native.Mathlib.Omega.{arith}
 use borrow.Author.Needs.{needs}

@@ -1,5 +1,5 @@
 use Rattle.inside_list.specs.Counting.{CountingWords, words-first, words-end, words-next, words-room}
-use Rattle.inside_blocks.specs.Blocks.{far}
+use Rattle.inside_blocks.specs.BlocksWalk.{far}
 use borrow.Author.Needs.{needs}
 use Rattle.inside_list.proofs.count_words.Statement.{statement}
 use Rattle.inside_list.proofs.count_words.Tie as tie

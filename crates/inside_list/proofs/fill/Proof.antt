@@ -1,6 +1,6 @@
 use Rattle.inside_list.specs.Counting.{step-known, step-fits}
 use Rattle.inside_list.specs.Filling.{Filling, filling-first, filling-end, module-room, filling-next, of-small}
-use Rattle.inside_files.specs.Parts.{far}
+use Rattle.inside_files.specs.PartsWalk.{far}
 use Rattle.words.specs.Le.{Bytes}
 use native.Mathlib.Omega.{arith}
 use borrow.Author.Needs.{needs}

@@ -1,7 +1,8 @@
 use Rattle.inside_list.specs.Inventory.{isModule, wordEntries}
 use Rattle.inside_list.specs.Filling.{module-length, module-listed, module-passed}
 use Rattle.inside_blocks.specs.Blocks.{items}
-use Rattle.facts.specs.Fact.{Holds, granted, refuted}
+use Rattle.facts.specs.Fact.{Holds}
+use Rattle.facts.specs.FactLaws.{granted, refuted}
 use Rattle.words.specs.PutLaws.{length-put, length-putAll}
 use Prim.Native.Nat.{_+_, _*_, _≤_}
 use lib.ListN.{length}

@@ -1,5 +1,5 @@
 use Rattle.inside_list.specs.Filling.{FillingWords, filling-start, filling-done, word-inside, word-room, filling-on}
-use Rattle.inside_blocks.specs.Blocks.{far}
+use Rattle.inside_blocks.specs.BlocksWalk.{far}
 use borrow.Author.Needs.{needs}
 use Rattle.inside_list.proofs.fill_words.Statement.{statement}
 use Rattle.inside_list.proofs.fill_words.Tie as tie

@@ -1,5 +1,5 @@
 use Rattle.inside_modules.specs.Modules.{kindFits, fromKind}
-use Rattle.facts.specs.Fact.{passes, fails, granted, refuted}
+use Rattle.facts.specs.FactLaws.{passes, fails, granted, refuted}
 use native.Mathlib.Omega.{arith}
 use borrow.Author.Needs.{needs}
 use Rattle.inside_modules.proofs.from_kind.Statement.{statement}

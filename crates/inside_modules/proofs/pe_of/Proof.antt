@@ -1,5 +1,6 @@
 use Rattle.inside_modules.specs.Modules.{dosFits, peOf}
-use Rattle.facts.specs.Fact.{passes, fails, granted, refuted, _≡?_}
+use Rattle.facts.specs.Fact.{_≡?_}
+use Rattle.facts.specs.FactLaws.{passes, fails, granted, refuted}
 use Rattle.words.specs.Le.{le}
 use mathlib.Core.Path.{_≡_, sym, _∙_}
 use native.Mathlib.Omega.{arith}

@@ -1,5 +1,6 @@
 use Rattle.inside_modules.specs.Modules.{teFits, teOf}
-use Rattle.facts.specs.Fact.{Holds, passes, fails, granted, refuted}
+use Rattle.facts.specs.Fact.{Holds}
+use Rattle.facts.specs.FactLaws.{passes, fails, granted, refuted}
 use native.Mathlib.Omega.{arith}
 use borrow.Author.Needs.{needs}
 use Rattle.inside_modules.proofs.te_of.Statement.{statement}

@@ -1,6 +1,7 @@
 use Rattle.inside_rows.specs.Rows.{rowAt}
 use Rattle.inside_pages.specs.Pages.{reaches}
-use Rattle.facts.specs.Fact.{Holds, holds, fails-not, is-test}
+use Rattle.facts.specs.Fact.{Holds}
+use Rattle.facts.specs.FactLaws.{holds, fails-not, is-test}
 use Prim.Native.Nat.{ℕ, _-_, _≤_, _<_}
 use borrow.Author.Count.{below-more}
 use mathlib.Core.Path.{sym, _∙_}

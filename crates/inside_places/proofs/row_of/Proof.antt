@@ -1,7 +1,8 @@
 use Rattle.inside_rows.specs.Rows.{rowAt}
 use Rattle.inside_places.specs.Places.{covers, rowOf}
-use Rattle.facts.specs.Fact.{Holds, holds, fails-not, is-test}
-use Rattle.facts.specs.First.{is-first}
+use Rattle.facts.specs.Fact.{Holds}
+use Rattle.facts.specs.FactLaws.{holds, fails-not, is-test}
+use Rattle.facts.specs.FirstLaws.{is-first}
 use Prim.Native.Nat.{ℕ, _-_, _≤_, _<_}
 use borrow.Author.Count.{below-more}
 use mathlib.Core.Path.{sym, _∙_}

@@ -1,5 +1,5 @@
 use Rattle.inside_rows.specs.Rows.{rowsFit, judged}
-use Rattle.facts.specs.Fact.{passes, fails, granted, refuted}
+use Rattle.facts.specs.FactLaws.{passes, fails, granted, refuted}
 use borrow.Author.Needs.{needs}
 use Rattle.inside_rows.proofs.judge.Statement.{statement}
 use Rattle.inside_rows.proofs.judge.Tie as tie

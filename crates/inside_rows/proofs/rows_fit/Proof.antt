@@ -1,5 +1,6 @@
 use Rattle.inside_rows.specs.Rows.{rowAt, dataFits}
-use Rattle.facts.specs.Fact.{Holds, granted, refuted}
+use Rattle.facts.specs.Fact.{Holds}
+use Rattle.facts.specs.FactLaws.{granted, refuted}
 use Prim.Native.Nat.{ℕ, _-_, _≤_, _<_}
 use borrow.Author.Count.{below-more}
 use native.Mathlib.Omega.{arith}

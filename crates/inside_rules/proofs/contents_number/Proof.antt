@@ -1,7 +1,7 @@
 use mathlib.Core.Path.{_≡_, refl, sym, _∙_}
 use native.Mathlib.Omega.{arith}
 use borrow.Author.Needs.{needs}
-use Rattle.facts.specs.Fact.{granted, refuted}
+use Rattle.facts.specs.FactLaws.{granted, refuted}
 use Rattle.inside_judge.specs.Rules.{patchItems}
 use Rattle.inside_rules.specs.ContentsLaws.{bounds, ready, number-25, number-26, number-27, number-0}
 use Rattle.inside_rules.proofs.contents_number.Statement.{statement}

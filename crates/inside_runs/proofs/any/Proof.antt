@@ -2,7 +2,7 @@ use Prim.Native.Nat.{_-_, _%_, _≤_}
 use native.Mathlib.Omega.{arith}
 use borrow.Author.Count.{below-more}
 use borrow.Author.Needs.{needs}
-use Rattle.facts.specs.Fact.{granted}
+use Rattle.facts.specs.FactLaws.{granted}
 use Rattle.inside_runs.specs.Runs.{InRoom, AnyIn}
 use Rattle.inside_runs.proofs.any.Statement.{statement}
 use Rattle.inside_runs.proofs.any.Tie as tie

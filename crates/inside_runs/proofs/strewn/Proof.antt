@@ -3,7 +3,7 @@ use mathlib.Core.Path.{_∙_}
 use native.Mathlib.Omega.{arith}
 use borrow.Author.Needs.{needs}
 use borrow.Author.Tests.{not-false}
-use Rattle.facts.specs.Fact.{granted}
+use Rattle.facts.specs.FactLaws.{granted}
 use Rattle.inside_runs.specs.Runs.{InGap, Strewing}
 use Rattle.inside_runs.specs.RunsLaws.{width-some, lain-none, strewing-more}
 use Rattle.inside_runs.proofs.strewn.Statement.{statement}

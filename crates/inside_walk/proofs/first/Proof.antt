@@ -1,4 +1,4 @@
-use Rattle.inside_walk.specs.Whole.{firstSpot}
+use Rattle.inside_walk.specs.WholeWalk.{firstSpot}
 use borrow.Author.Needs.{needs}
 use Rattle.inside_walk.proofs.first.Statement.{statement}
 use Rattle.inside_walk.proofs.first.Tie as tie

@@ -1,4 +1,4 @@
-use Rattle.move_image.specs.Moves.{difference}
+use Rattle.moves.specs.Moves.{difference}
 use native.Mathlib.Omega.{arith}
 use borrow.Author.Needs.{needs}
 use Rattle.move_image.proofs.modular_difference.Statement.{statement}

@@ -1,7 +1,7 @@
 use Rattle.move_image.specs.FixedLaws.{fixed-spread, fixed-kept}
 use Rattle.move_image.specs.Fixed.{fixedAt, fixedOf}
-use Rattle.move_image.specs.MovesLaws.{length-moved}
-use Rattle.move_image.specs.Moves.{movedTo}
+use Rattle.moves.specs.MovesLaws.{length-moved}
+use Rattle.moves.specs.Moves.{movedTo}
 use lib.ListN.{length}
 use Prim.Native.Nat.{ℕ, suc, _+_, _-_, _≤_}
 use mathlib.Core.Path.{_≡_, refl, ap, _∙_}

@@ -1,9 +1,9 @@
-use Rattle.move_image.specs.Moves.{difference}
+use Rattle.moves.specs.Moves.{difference}
 use Rattle.reading_rules.specs.Words.{wordsOf}
 use Rattle.reading_rules.specs.WordsLaws.{widths}
 use Rattle.move_modules.specs.Relocate.{shift}
 use Rattle.move_modules.specs.Widths.{moved-by-width}
-use Rattle.move_image.specs.Moves.{moved}
+use Rattle.moves.specs.Moves.{moved}
 use Rattle.move_image.specs.Moving.{moveTo}
 use Prim.Native.Nat.{ℕ}
 use mathlib.Core.Path.{_≡_, refl, _∙_}

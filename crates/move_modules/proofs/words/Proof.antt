@@ -1,4 +1,4 @@
-use Rattle.inside_walk.specs.Whole.{far}
+use Rattle.inside_walk.specs.WholeWalk.{far}
 use Rattle.words.specs.Le.{Bytes}
 use Rattle.move_modules.specs.Relocate.{shift, Moving}
 use Rattle.move_modules.specs.RelocateLaws.{past-less, moving-start, moving-end, moving-inside, moving-next, moving-hand, moving-past}

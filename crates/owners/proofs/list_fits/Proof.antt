@@ -1,6 +1,7 @@
 use Rattle.owners.specs.Owners.{ranges, rangeAt, rangeEnd, rangeFrom, rangeFits}
 use Rattle.owners.specs.declared.Range.{Range}
-use Rattle.facts.specs.Fact.{Holds, granted, refuted}
+use Rattle.facts.specs.Fact.{Holds}
+use Rattle.facts.specs.FactLaws.{granted, refuted}
 use borrow.Author.Count.{below-more}
 use lib.ListN.{length}
 use Prim.Native.Nat.{ℕ, _+_, _-_, _*_, _/_, _≤_, _<_}

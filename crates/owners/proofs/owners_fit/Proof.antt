@@ -1,4 +1,4 @@
-use Rattle.facts.specs.Fact.{granted, refuted}
+use Rattle.facts.specs.FactLaws.{granted, refuted}
 use borrow.Author.Needs.{needs}
 use Rattle.owners.proofs.owners_fit.Statement.{statement}
 use Rattle.owners.proofs.owners_fit.Tie as tie

@@ -2,7 +2,8 @@ use Rattle.owners.specs.Owners.{ranges, owned}
 use Rattle.owners.specs.OwnersLaws.{PassedBy, passed-on}
 use Rattle.sheet.specs.Sheet.{count, offset, size, endBefore}
 use Rattle.sheet.specs.declared.Entry.{Entry}
-use Rattle.facts.specs.Fact.{Holds, Tells, every, granted, refuted}
+use Rattle.facts.specs.Fact.{Holds, Tells, every}
+use Rattle.facts.specs.FactLaws.{granted, refuted}
 use borrow.Author.Count.{below-more}
 use Prim.Native.Nat.{ℕ, _+_, _-_, _≤_, _<_}
 use mathlib.Core.Path.{_≡_, refl, ap}

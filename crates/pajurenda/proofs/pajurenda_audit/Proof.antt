@@ -1,6 +1,6 @@
 use Rattle.c_answers.specs.AnswerLaws.{roomy, short}
 use Rattle.c_answers.specs.Answers.{auditFields}
-use Rattle.audit.specs.declared.Audited.{Audited}
+use Rattle.answers.specs.declared.Audited.{Audited}
 use Rattle.words.specs.Put.{putAll}
 use mathlib.Core.Path.{sym, ap, _∙_}
 use borrow.Author.Needs.{needs}

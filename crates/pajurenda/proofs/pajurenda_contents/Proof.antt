@@ -1,6 +1,6 @@
 use Rattle.c_answers.specs.AnswerLaws.{roomy, short}
 use Rattle.c_answers.specs.Answers.{listFields}
-use Rattle.contents.specs.declared.Listed.{Listed}
+use Rattle.answers.specs.declared.Listed.{Listed}
 use Rattle.words.specs.Put.{putAll}
 use mathlib.Core.Path.{sym, ap, _∙_}
 use borrow.Author.Needs.{needs}

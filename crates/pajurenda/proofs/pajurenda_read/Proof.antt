@@ -1,6 +1,6 @@
 use Rattle.c_answers.specs.AnswerLaws.{roomy, short}
 use Rattle.c_answers.specs.Answers.{readFields}
-use Rattle.reading_rules.specs.declared.Reading.{Reading}
+use Rattle.answers.specs.declared.Reading.{Reading}
 use Rattle.words.specs.Put.{putAll}
 use mathlib.Core.Path.{sym, ap, _∙_}
 use borrow.Author.Needs.{needs}

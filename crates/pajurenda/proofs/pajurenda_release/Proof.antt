@@ -1,6 +1,6 @@
 use Rattle.c_answers.specs.AnswerLaws.{roomy, short}
 use Rattle.c_answers.specs.Answers.{moveFields}
-use Rattle.move_image.specs.declared.Moved.{Moved}
+use Rattle.answers.specs.declared.Moved.{Moved}
 use Rattle.words.specs.Put.{putAll}
 use mathlib.Core.Path.{sym, ap, _∙_}
 use borrow.Author.Needs.{needs}

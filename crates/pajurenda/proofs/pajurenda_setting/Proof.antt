@@ -1,6 +1,6 @@
 use Rattle.c_answers.specs.AnswerLaws.{roomy, short}
 use Rattle.c_answers.specs.Answers.{settingFields}
-use Rattle.c_answers.specs.declared.Found.{Found}
+use Rattle.answers.specs.declared.Found.{Found}
 use Rattle.words.specs.Put.{putAll}
 use mathlib.Core.Path.{sym, ap, _∙_}
 use borrow.Author.Needs.{needs}

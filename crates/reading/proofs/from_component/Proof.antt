@@ -1,6 +1,6 @@
 use Rattle.facts.specs.Rules.{run}
 use native.Mathlib.Omega.{arith}
-use Rattle.facts.specs.Fact.{yes, no, granted}
+use Rattle.facts.specs.FactLaws.{yes, no, granted}
 use Rattle.reading_rules.specs.Stages.{fromComponent}
 use borrow.Author.Needs.{needs}
 use Rattle.reading.proofs.from_component.Statement.{statement}

@@ -1,6 +1,7 @@
 use Rattle.facts.specs.Rules.{run}
 use native.Mathlib.Omega.{arith}
-use Rattle.facts.specs.Fact.{_≡?_, passes, fails, yes, no, granted}
+use Rattle.facts.specs.Fact.{_≡?_}
+use Rattle.facts.specs.FactLaws.{passes, fails, yes, no, granted}
 use Rattle.reading_rules.specs.Stages.{fromExtension}
 use borrow.Author.Needs.{needs}
 use Rattle.reading.proofs.from_extension.Statement.{statement}

@@ -4,7 +4,7 @@ use Rattle.facts.specs.Rules.{run}
 use Rattle.words.specs.Le.{le}
 use Rattle.inside_walk.specs.Walkable.{Walkable}
 use native.Mathlib.Omega.{arith}
-use Rattle.facts.specs.Fact.{yes, no, granted}
+use Rattle.facts.specs.FactLaws.{yes, no, granted}
 use Rattle.reading_rules.specs.Stages.{fromHeader}
 use borrow.Author.Needs.{needs}
 use Rattle.reading.proofs.from_header.Statement.{statement}

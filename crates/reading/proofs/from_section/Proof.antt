@@ -2,7 +2,7 @@ use Rattle.facts.specs.Rules.{run}
 use Rattle.words.specs.Le.{le}
 use Rattle.reading_rules.specs.Guarantee.{file-walkable}
 use native.Mathlib.Omega.{arith}
-use Rattle.facts.specs.Fact.{yes, no, granted}
+use Rattle.facts.specs.FactLaws.{yes, no, granted}
 use Rattle.reading_rules.specs.Stages.{fromSection}
 use borrow.Author.Needs.{needs}
 use Rattle.reading.proofs.from_section.Statement.{statement}

@@ -1,5 +1,5 @@
 use Rattle.facts.specs.Rules.{run}
-use Rattle.facts.specs.Fact.{yes, no, granted}
+use Rattle.facts.specs.FactLaws.{yes, no, granted}
 use Rattle.reading_rules.specs.Reading.{reading}
 use Rattle.reading_rules.specs.Stages.{stages, by-stages}
 use borrow.Author.Needs.{needs}

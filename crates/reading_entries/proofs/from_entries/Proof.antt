@@ -2,7 +2,7 @@ use Rattle.table.specs.PassesLaws.{place-placed}
 use Prim.Native.Nat.{ℕ, _+_, _*_, _<_}
 use mathlib.Core.Path.{_≡_}
 use Rattle.table.specs.Passes.{place, unrefused, clear}
-use Rattle.facts.specs.First.{first}
+use Rattle.facts.specs.FirstLaws.{first}
 use native.Mathlib.Omega.{arith}
 use Rattle.facts.specs.Rules.{run}
 use borrow.Author.Tests.{lt-ltb, le-ltb}

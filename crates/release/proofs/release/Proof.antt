@@ -1,11 +1,14 @@
-use Rattle.release.specs.Release.{releaseRules, releasing, twoSteps}
-use Rattle.release.specs.ReleaseLaws.{Releasable, set-guaranteed, release-kept, release-unread, release-judged, release-changed, release-shows}
-use Rattle.sheet.specs.Set.{setBy}
-use Rattle.move_image.specs.Moving.{moveTo, refusedMove}
-use Rattle.move_image.specs.declared.Moved.{Moved}
+use Rattle.release.specs.Release.{releasing, twoSteps}
+use Rattle.release_judge.specs.Judged.{releaseRules}
+use Rattle.release.specs.ReleaseLaws.{set-guaranteed, release-kept, release-unread, release-judged, release-changed, release-shows}
+use Rattle.release.specs.Releasable.{Releasable}
+use Rattle.sheet_bodies.specs.Set.{setBy}
+use Rattle.move_image.specs.Moving.{moveTo}
+use Rattle.move_answer.specs.MoveAnswer.{refusedMove}
+use Rattle.answers.specs.declared.Moved.{Moved}
 use Rattle.reading_rules.specs.Guarantee.{guaranteed}
 use Rattle.reading_rules.specs.Reading.{reading}
-use Rattle.reading_rules.specs.declared.Reading.{Reading}
+use Rattle.answers.specs.declared.Reading.{Reading}
 use Rattle.facts.specs.Rules.{run}
 use lib.ListN.{length}
 use Prim.Native.Nat.{ℕ}

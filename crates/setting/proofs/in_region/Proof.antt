@@ -1,4 +1,4 @@
-use Rattle.facts.specs.Fact.{yes, no, granted}
+use Rattle.facts.specs.FactLaws.{yes, no, granted}
 use Prim.Native.Nat.{_+_, _-_}
 use mathlib.Core.Path.{_≡_, refl}
 use native.Mathlib.Omega.{arith}

@@ -2,7 +2,7 @@ use Rattle.setting.specs.SettingLaws.{setting-unread, region-part, unrea
 use Rattle.setting.specs.Setting.{regionPart, regionPlace}
 use Rattle.reading_rules.specs.Guarantee.{Guaranteed, guaranteed}
 use Rattle.reading_rules.specs.Reading.{reading}
-use Rattle.reading_rules.specs.declared.Reading.{Reading}
+use Rattle.answers.specs.declared.Reading.{Reading}
 use lib.ListN.{take, drop}
 use Prim.Native.Nat.{ℕ, _+_, _-_}
 use native.Mathlib.Nat.{add-assoc}

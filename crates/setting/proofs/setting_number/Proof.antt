@@ -1,7 +1,7 @@
 use Rattle.setting.specs.SettingLaws.{setting-unread, setting-refused, setting-accepted}
 use Rattle.reading_rules.specs.Reading.{reading}
-use Rattle.reading_rules.specs.declared.Reading.{Reading}
-use Rattle.facts.specs.Fact.{granted, refuted}
+use Rattle.answers.specs.declared.Reading.{Reading}
+use Rattle.facts.specs.FactLaws.{granted, refuted}
 use mathlib.Core.Path.{_≡_, sym, ap, _∙_}
 use borrow.Author.Needs.{needs}
 use Rattle.setting.proofs.setting_number.Statement.{statement}

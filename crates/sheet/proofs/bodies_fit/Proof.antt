@@ -1,6 +1,7 @@
 use Rattle.sheet.specs.Sheet.{count, size, offset, bodyAt, endBefore, entryFits}
 use Rattle.sheet.specs.declared.Entry.{Entry}
-use Rattle.facts.specs.Fact.{Holds, granted, refuted}
+use Rattle.facts.specs.Fact.{Holds}
+use Rattle.facts.specs.FactLaws.{granted, refuted}
 use lib.ListN.{length}
 use borrow.Author.Count.{below-more}
 use Prim.Native.Nat.{ℕ, _+_, _-_, _*_, _≤_, _<_}

@@ -1,5 +1,6 @@
 use Rattle.sheet.specs.Sheet.{fieldFits}
-use Rattle.facts.specs.Fact.{Holds, granted, refuted}
+use Rattle.facts.specs.Fact.{Holds}
+use Rattle.facts.specs.FactLaws.{granted, refuted}
 use borrow.Author.Count.{below-more}
 use Prim.Native.Nat.{ℕ, _-_, _≤_, _<_}
 use mathlib.Core.Path.{_≡_}

@@ -1,6 +1,6 @@
 use Rattle.sheet.specs.ReadSheet.{refusedSheet, sheetReading}
 use Rattle.facts.specs.Rules.{run}
-use Rattle.facts.specs.Fact.{yes, no, granted}
+use Rattle.facts.specs.FactLaws.{yes, no, granted}
 use mathlib.Core.Path.{refl}
 use native.Mathlib.Omega.{arith}
 use borrow.Author.Needs.{needs}

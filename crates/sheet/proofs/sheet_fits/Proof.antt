@@ -1,4 +1,4 @@
-use Rattle.facts.specs.Fact.{granted, refuted}
+use Rattle.facts.specs.FactLaws.{granted, refuted}
 use borrow.Author.Needs.{needs}
 use Rattle.sheet.proofs.sheet_fits.Statement.{statement}
 use Rattle.sheet.proofs.sheet_fits.Tie as tie

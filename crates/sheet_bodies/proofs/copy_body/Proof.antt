@@ -1,4 +1,4 @@
-use Rattle.sheet.specs.Set.{copied}
+use Rattle.sheet_bodies.specs.Set.{copied}
 use lib.ListN.{length, length-set}
 use Prim.Native.Nat.{_-_, _≤_}
 use mathlib.Core.Path.{_≡_, refl}

@@ -1,4 +1,5 @@
-use Rattle.facts.specs.Fact.{_≡?_, passes, fails}
+use Rattle.facts.specs.Fact.{_≡?_}
+use Rattle.facts.specs.FactLaws.{passes, fails}
 use Rattle.station_order.specs.Order.{notifyPhase, noted}
 use Rattle.station_order.proofs.heard.Statement.{statement}
 use Rattle.station_order.proofs.heard.Tie as tie

@@ -1,4 +1,4 @@
-use Rattle.facts.specs.Fact.{yes, no}
+use Rattle.facts.specs.FactLaws.{yes, no}
 use Rattle.station_order.specs.Order.{ordered}
 use borrow.Author.Needs.{needs}
 use Rattle.station_order.proofs.step.Statement.{statement}

@@ -1,4 +1,5 @@
-use Rattle.facts.specs.Fact.{_≤?_, passes, fails}
+use Rattle.facts.specs.Fact.{_≤?_}
+use Rattle.facts.specs.FactLaws.{passes, fails}
 use Prim.Native.Nat.{_+_}
 use native.Mathlib.Omega.{arith}
 use borrow.Author.Needs.{needs}

@@ -1,5 +1,6 @@
 use Rattle.table.specs.Entry.{placeOf}
-use Rattle.facts.specs.Fact.{_≤?_, passes, fails, yes, no}
+use Rattle.facts.specs.Fact.{_≤?_}
+use Rattle.facts.specs.FactLaws.{passes, fails, yes, no}
 use Prim.Native.Nat.{_-_, _%_, _^_}
 use borrow.Author.Tests.{eq-eqb, ne-eqb}
 use native.Mathlib.Omega.{arith}

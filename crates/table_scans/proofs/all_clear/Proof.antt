@@ -1,6 +1,6 @@
 use mathlib.Core.Bool.{false≢true}
 use mathlib.Core.Path.{sym, _∙_}
-use Rattle.facts.specs.Fact.{holds, is-test, granted}
+use Rattle.facts.specs.FactLaws.{holds, is-test, granted}
 use Rattle.table_order.specs.Ranks.{allApart}
 use borrow.Author.Needs.{needs}
 use Rattle.table_scans.proofs.all_clear.Statement.{statement}

@@ -2,9 +2,10 @@ use mathlib.Core.List.{List}
 use lib.ListN.{length}
 use Rattle.table.specs.PassesLaws.{place-placed}
 use Rattle.table.specs.Passes.{place, outside, apart, clear}
-use Rattle.facts.specs.Fact.{Holds, granted, refuted}
+use Rattle.facts.specs.Fact.{Holds}
+use Rattle.facts.specs.FactLaws.{granted, refuted}
 use Rattle.table.specs.declared.Place.{Place}
-use Rattle.facts.specs.First.{is-first}
+use Rattle.facts.specs.FirstLaws.{is-first}
 use Prim.Native.Nat.{ℕ, _+_, _-_, _*_, _≤_, _<_}
 use borrow.Author.Count.{below-more}
 use mathlib.Core.Path.{_≡_}

@@ -1,7 +1,7 @@
 use Rattle.table.specs.Passes.{unrefused}
 use Rattle.facts.specs.Fact.{Holds}
 use Rattle.table.specs.declared.Place.{Place}
-use Rattle.facts.specs.First.{is-first}
+use Rattle.facts.specs.FirstLaws.{is-first}
 use Prim.Native.Nat.{ℕ, _-_, _≤_, _<_}
 use borrow.Author.Count.{below-more}
 use mathlib.Core.Path.{ap, sym, _∙_}

@@ -1,7 +1,8 @@
 -- Assumes nothing.
 use native.Mathlib.Omega.{arith}
 use borrow.Author.Needs.{needs}
-use Rattle.facts.specs.Fact.{_≤?_, passes, fails}
+use Rattle.facts.specs.Fact.{_≤?_}
+use Rattle.facts.specs.FactLaws.{passes, fails}
 use Rattle.text_lines.specs.Text.{hexDigit}
 use Rattle.text_lines.proofs.hex_digit.Statement.{statement}
 use Rattle.text_lines.proofs.hex_digit.Tie as tie

@@ -3,7 +3,8 @@ use lib.ListN.{length}
 use denote.Ref.{now}
 use Rattle.facts.specs.Rules.{run}
 use native.Mathlib.Omega.{arith}
-use Rattle.facts.specs.Fact.{_≤?_, passes, fails}
+use Rattle.facts.specs.Fact.{_≤?_}
+use Rattle.facts.specs.FactLaws.{passes, fails}
 use Rattle.handoff_step.specs.Step.{stepRules, stepped}
 use borrow.Author.Needs.{needs}
 use Rattle.handoff_step.proofs.Cursor.step.Statement.{statement}

@@ -1,0 +1,67 @@
+-- Request #104: what it says of every call holds.
+-- Assumes nothing.
+use Prim.Native.Nat.{ℕ, _+_, _*_, _/_}
+use mathlib.Core.List.{List}
+use mathlib.Core.Path.{_≡_, sym, ap, _∙_}
+use native.Mathlib.Omega.{arith}
+use lib.ListN.{length}
+use Rattle.words.specs.Le.{le}
+use Rattle.table.specs.EntryLaws.{spot-of}
+use Rattle.table.specs.Passes.{place}
+use Rattle.answers.specs.declared.Reading.{Reading}
+use Rattle.reading_rules.specs.Reading.{entriesAt, reading}
+use Rattle.reading_rules.specs.Guarantee.{guaranteed}
+use Rattle.answers.specs.declared.Moved.{Moved}
+use Rattle.move_answer.specs.MoveAnswer.{refusedMove}
+use Rattle.release.specs.Release.{releasing}
+use Rattle.release.specs.ReleaseLaws.{release-kept, release-unread, release-shows}
+use Rattle.setting.specs.SettingLaws.{setting-unread, setting-passed}
+use Rattle.answers.specs.declared.Audited.{Audited}
+use Rattle.audit.specs.Audit.{refusedAudit, auditing}
+use Rattle.audit.specs.AuditLaws.{audit-unread, audit-accepted, list-kept, bytes-kept}
+use Rattle.demands.specs.Reserved.{Accepts-unreserved, Refuses-reserved, Unreserved}
+
+-- ---- they hold
+
+unreserved : (xs : List ℕ) → reading xs .number ≡ 0 → Unreserved xs
+unfolding place
+unreserved xs ok i h =
+    let r = reading xs in
+    spot-of (length xs) (le 4 xs (entriesAt r + 4 * i)) .reserved (guaranteed xs ok .placed i h)
+
+pub accepts-unreserved : Accepts-unreserved
+accepts-unreserved = (
+  (λ xs r is ok. unreserved xs (sym (ap (λ (q : Reading). q .number) is) ∙ ok)),
+  (λ xs s base o owner r ys is ok.
+      unreserved xs (release-shows xs s base o owner (sym (ap (λ (q : Moved). q .number) (is .0)) ∙ ok) .fits .read)),
+  (λ xs offset size k is ok. unreserved xs (setting-passed xs offset size (sym is ∙ ok) .0)),
+  (λ xs ys places a l is ok.
+      unreserved xs (audit-accepted xs ys (length places) (sym (ap (λ (q : Audited). q .number) (is .0)) ∙ ok) .read)),
+  (λ xs ys bytes a l is ok.
+      unreserved xs (audit-accepted xs ys (length bytes / 4) (sym (ap (λ (q : Audited). q .number) (is .0)) ∙ ok) .read)),
+)
+
+pub refuses-reserved : Refuses-reserved
+refuses-reserved xs i e = (
+  (λ s base o owner r ys is.
+      let n = released s base o owner in (is .0 ∙ n, is .1 ∙ release-kept xs s base o owner (unaccepted s base o owner))),
+  (λ offset size k is. is ∙ setting-unread xs offset size unread .0 ∙ ap (λ (r : Reading). r .number) e),
+  (λ ys places a l is. let n = of ys (length places) in (is .0 ∙ n, is .1 ∙ list-kept xs ys places (none ys (length places)))),
+  (λ ys bytes a l is. let n = of ys (length bytes / 4) in (is .0 ∙ n, is .1 ∙ bytes-kept xs ys bytes (none ys (length bytes / 4)))),
+)
+  where
+    unread : reading xs .number ≡ 0 → ⊥
+    unread z = let k : _≡_ {A = ℕ} 22 0 = sym (ap (λ (r : Reading). r .number) e) ∙ z in omega arith
+
+    released : (s : List ℕ) (base : ℕ) (o : List ℕ) (owner : ℕ) → releasing xs s base o owner ≡ refusedMove 22 i
+    released s base o owner = rw e at (release-unread xs s base o owner unread)
+
+    unaccepted : (s : List ℕ) (base : ℕ) (o : List ℕ) (owner : ℕ) → releasing xs s base o owner .number ≡ 0 → ⊥
+    unaccepted s base o owner z =
+        let k : _≡_ {A = ℕ} 22 0 = sym (ap (λ (m : Moved). m .number) (released s base o owner)) ∙ z in omega arith
+
+    of : (ys : List ℕ) (room : ℕ) → auditing xs ys room ≡ refusedAudit 22 i
+    of ys room = rw e at (audit-unread xs ys room unread)
+
+    none : (ys : List ℕ) (room : ℕ) → auditing xs ys room .number ≡ 0 → ⊥
+    none ys room z = let k : _≡_ {A = ℕ} 22 0 = sym (ap (λ (a : Audited). a .number) (of ys room)) ∙ z in omega arith

@@ -1,0 +1,5 @@
+pub mod Theorems
+pub mod FieldLaws
+pub mod Small
+pub mod Demand
+pub mod DemandHolds

@@ -1,0 +1,4 @@
+pub mod Set
+pub mod SetLaws
+pub mod PartLaws
+pub mod Small

@@ -1,0 +1,169 @@
+-- What setting the bytes of a sheet does, byte by byte.
+-- Assumes nothing.
+use mathlib.Core.Path.{_≡_, refl, sym, ap, _∙_}
+use mathlib.Core.List.{List, _++_}
+use mathlib.Core.Logic.{_⊎_, inl, inr}
+use Prim.Native.Nat.{ℕ, zero, suc, _+_, _-_, _*_, _≤_, _<_, min}
+use native.Mathlib.Omega.{arith}
+use native.Mathlib.Decide.{decLt}
+use lib.ListN.{length, getD, take, drop, set, length-set, length-append, length-take, length-drop, List·getD-append}
+use lib.Seq.{getD-set-same, getD-set-other, getD-append-add, getD-take, getD-drop, length-take-le}
+use Rattle.facts.specs.Fact.{Holds}
+use Rattle.words.specs.Le.{le, Bytes}
+use Rattle.answers.specs.declared.Reading.{Reading}
+use Rattle.reading_rules.specs.Guarantee.{Guaranteed}
+use Rattle.moves.specs.Moves.{Words, Beside}
+use Rattle.sheet_bodies.specs.PartLaws.{length-joined, joined-low, joined-mid, joined-high}
+use Rattle.sheet.specs.Sheet.{Sound, count, offset, size, bodyAt, fieldFits}
+use Rattle.sheet_bodies.specs.Set.{fieldsOf, joined, copied, written, setBy}
+
+-- ---- a copy
+
+pub length-copied : (xs : List ℕ) (at : ℕ) (s : List ℕ) (from k : ℕ) → length (copied xs at s from k) ≡ length xs
+unfolding copied
+length-copied xs at s from zero = refl
+length-copied xs at s from (suc k) = length-set (copied xs at s from k) (at + k) (getD s (from + k) 0) ∙ length-copied xs at s from k
+
+pub copied-beside : (xs : List ℕ) (at : ℕ) (s : List ℕ) (from k i : ℕ) → (i < at) ⊎ (at + k ≤ i)
+    → getD (copied xs at s from k) i 0 ≡ getD xs i 0
+unfolding copied
+copied-beside xs at s from zero i h = refl
+copied-beside xs at s from (suc k) i h =
+    getD-set-other (copied xs at s from k) (at + k) i (getD s (from + k) 0) 0 (other h) ∙ copied-beside xs at s from k i (less h)
+  where
+    other : (i < at) ⊎ (at + suc k ≤ i) → i ≡ at + k → ⊥
+    other (inl h) e = omega arith
+    other (inr h) e = omega arith
+
+    less : (i < at) ⊎ (at + suc k ≤ i) → (i < at) ⊎ (at + k ≤ i)
+    less (inl h) = inl h
+    less (inr h) = inr (omega arith)
+
+pub copied-in : (xs : List ℕ) (at : ℕ) (s : List ℕ) (from k j : ℕ) → at + k ≤ length xs → j < k
+    → getD (copied xs at s from k) (at + j) 0 ≡ getD s (from + j) 0
+unfolding copied
+copied-in xs at s from zero j fits h = absurd (omega arith)
+copied-in xs at s from (suc k) j fits h =
+    elim (decLt j k) [
+      | yes l ↦ getD-set-other (copied xs at s from k) (at + k) (at + j) (getD s (from + k) 0) 0 (omega arith)
+          ∙ copied-in xs at s from k j (omega arith) l
+      | no l ↦ let e : j ≡ k =
+          omega arith in rw e (getD-set-same (copied xs at s from k) (at + k) (getD s (from + k) 0) 0 (rw length-copied (omega arith)))
+    ]
+
+-- ---- the bodies of a sheet
+
+body-mono : (s : List ℕ) (i k : ℕ) → bodyAt s i ≤ bodyAt s (i + k)
+unfolding bodyAt
+body-mono s i zero = let e : i + 0 ≡ i = omega arith in rw e (omega arith)
+body-mono s i (suc k) = let e : i + suc k ≡ suc (i + k) = omega arith in rw e (omega (arith, body-mono s i k))
+
+module _ (s : List ℕ) (z : ℕ) (sound : Sound s z) where
+  -- a body lies in the sheet
+  pub body-within : (i : ℕ) → i < count s → bodyAt s i + size s i ≤ length s
+  unfolding bodyAt
+  body-within i h =
+      let e : suc i + (count s - suc i) ≡ count s = omega arith in
+      let up : bodyAt s (suc i) ≤ bodyAt s (count s) = rw e at (body-mono s (suc i) (count s - suc i)) in
+      omega (arith, up, sound .bodies .1)
+
+  -- an entry starts at or past the end of each before it
+  pub entries-ascend : (j i : ℕ) → i < j → j < count s → offset s i + size s i ≤ offset s j
+  entries-ascend zero i l h = absurd (omega arith)
+  entries-ascend (suc j) i l h =
+      let next : offset s j + size s j ≤ offset s (suc j) = sound .bodies .0 (suc j) h .1 .1 in
+      elim (decLt i j) [
+        | yes g ↦ omega (arith, entries-ascend j i g (omega arith), next)
+        | no g ↦ let e : i ≡ j = omega arith in rw e next
+      ]
+
+-- ---- the settings part, written
+
+pub length-written : (p s : List ℕ) (n : ℕ) → length (written p s n) ≡ length p
+unfolding written
+length-written p s zero = refl
+length-written p s (suc n) = length-copied (written p s n) (offset s n - 32) s (bodyAt s n) (size s n) ∙ length-written p s n
+
+pub written-beside : (p s : List ℕ) (n k : ℕ) → ((i : ℕ) → i < n → (k < offset s i - 32) ⊎ (offset s i - 32 + size s i ≤ k))
+    → getD (written p s n) k 0 ≡ getD p k 0
+unfolding written
+written-beside p s zero k out = refl
+written-beside p s (suc n) k out =
+    copied-beside (written p s n) (offset s n - 32) s (bodyAt s n) (size s n) k (out n (omega arith)) ∙ written-beside p s n k
+    (λ i h. out i (omega arith))
+
+pub written-in : (p s : List ℕ) (z : ℕ) → Sound s z → length p ≡ z - 32 → (n i j : ℕ) → n ≤ count s → i < n → j < size s i
+    → getD (written p s n) (offset s i - 32 + j) 0 ≡ getD s (bodyAt s i + j) 0
+unfolding written
+written-in p s z sound long zero i j hn hi hj = absurd (omega arith)
+written-in p s z sound long (suc n) i j hn hi hj =
+    elim (decLt i n) [
+      | yes l ↦
+          copied-beside (written p s n) (offset s n - 32) s (bodyAt s n) (size s n) (offset s i - 32 + j)
+          (inl (omega (arith, entries-ascend s z sound n i l (omega arith), sound .fields i (omega arith), sound .fields n (omega arith))))
+          ∙ written-in p s z sound long n i j (omega arith) l hj
+      | no l ↦
+          let e : i ≡ n = omega arith in
+          let fits : offset s n - 32 + size s n ≤ length (written p s n) =
+          rw length-written (omega (arith, sound .fields n (omega arith))) in
+          rw e (copied-in (written p s n) (offset s n - 32) s (bodyAt s n) (size s n) j fits (rw e at hj))
+    ]
+
+-- ---- the image, set
+
+-- the settings part
+abbrev settingsPart : List ℕ → Reading → List ℕ
+settingsPart xs r = take (r .z - 32) (drop (r .c + 32) xs)
+
+module _ (xs : List ℕ) (r : Reading) (s : List ℕ) (g : Guaranteed xs r) (sound : Sound s (r .z)) where
+  room : r .c + 32 + (r .z - 32) ≤ length xs
+  room = omega (arith, g)
+
+  part-long : length (settingsPart xs r) ≡ r .z - 32
+  part-long = length-take-le (r .z - 32) (drop (r .c + 32) xs) (rw length-drop (omega (arith, g)))
+
+  new-long : length (written (settingsPart xs r) s (count s)) ≡ r .z - 32
+  new-long = length-written (settingsPart xs r) s (count s) ∙ part-long
+
+  pub length-set-by : length (setBy xs r s) ≡ length xs
+  unfolding setBy
+  length-set-by = length-joined xs (r .c + 32) (r .z - 32) (written (settingsPart xs r) s (count s)) room new-long
+
+  -- outside the settings part every byte is kept
+  pub set-outside : (k : ℕ) → (k < r .c + 32) ⊎ (r .c + r .z ≤ k) → getD (setBy xs r s) k 0 ≡ getD xs k 0
+  unfolding setBy
+  set-outside k (inl h) = joined-low xs (r .c + 32) (r .z - 32) (written (settingsPart xs r) s (count s)) room new-long k h
+  set-outside k (inr h) = joined-high xs (r .c + 32) (r .z - 32) (written (settingsPart xs r) s (count s)) room new-long k
+      (omega (arith, g))
+
+  -- outside the sheet's own entries every byte is kept
+  pub set-beside : (k : ℕ) → Beside (fieldsOf r s) (count s) k → getD (setBy xs r s) k 0 ≡ getD xs k 0
+  unfolding setBy
+  set-beside k out =
+      elim (decLt k (r .c + 32)) [
+        | yes h ↦ set-outside k (inl h)
+        | no h ↦ elim (decLt k (r .c + r .z)) [
+          | no l ↦ set-outside k (inr (omega arith))
+          | yes l ↦
+              let j = k - (r .c + 32) in
+              let e : r .c + 32 + j ≡ k = omega arith in
+              rw e at (joined-mid xs (r .c + 32) (r .z - 32) (written (settingsPart xs r) s (count s)) room new-long j (omega arith)
+              ∙ written-beside (settingsPart xs r) s (count s) j (λ i hi. near i (omega arith) (out i hi) (sound .fields i hi))
+              ∙ getD-take (r .z - 32) (drop (r .c + 32) xs) j 0 (omega arith) ∙ getD-drop (r .c + 32) xs j 0)
+        ]
+      ]
+    where
+      near : (i : ℕ) → r .c + 32 ≤ k → (k < r .c + offset s i) ⊎ (r .c + offset s i + size s i ≤ k) → Holds (fieldFits s (r .z) i)
+          → (k - (r .c + 32) < offset s i - 32) ⊎ (offset s i - 32 + size s i ≤ k - (r .c + 32))
+      near i hi (inl a) f = inl (omega arith)
+      near i hi (inr a) f = inr (omega arith)
+
+  -- inside them it is the body's
+  pub set-in : (i j : ℕ) → i < count s → j < size s i → getD (setBy xs r s) (r .c + offset s i + j) 0 ≡ getD s (bodyAt s i + j) 0
+  unfolding setBy
+  set-in i j hi hj =
+      let f = sound .fields i hi in
+      let e : r .c + 32 + (offset s i - 32 + j) ≡ r .c + offset s i + j = omega arith in
+      rw e at (joined-mid xs (r .c + 32) (r .z - 32) (written (settingsPart xs r) s (count s)) room new-long (offset s i - 32 + j)
+      (omega arith)
+      ∙ written-in (settingsPart xs r) s (r .z) sound part-long (count s) i j (omega arith) hi hj)
