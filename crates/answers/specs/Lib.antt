@@ -1,2 +1,4 @@
 pub mod After
 pub mod AfterLaws
+pub mod ExactlyAfter
+pub mod ExactlyAfterLaws

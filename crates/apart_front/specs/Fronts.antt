@@ -1,8 +1,9 @@
 -- Request #107, rule 26: a frontier of what is passed.
 -- Assumes nothing.
-use Prim.Native.Nat.{_+_, _≤_, _<_}
+use Prim.Native.Nat.{suc, _+_, _≤_}
+use mathlib.Core.Bool.{Bool}
 use mathlib.Core.List.{List, _++_}
-use Rattle.facts.specs.Fact.{Fact, _≤?_, _and_, _or_, Holds}
+use Rattle.facts.specs.Fact.{Fact, _≤?_, _and_, _or_, Holds, Tells}
 use Rattle.items.specs.declared.Item.{Item}
 use Rattle.items.specs.Items.{each, apartFrom}
 use Rattle.apart_front.specs.declared.Front.{Front}
@@ -18,8 +19,15 @@ pub record Bounds (ps : List Item) (f : Front) : Type 0 where
   pub all : Holds (each (aside f) ps)
 
 -- nothing came out of order
+abbrev pub ordered : Front → Fact
+ordered f = suc (f .top) ≤? 1099511627776
+
 abbrev pub Ordered : Front → Type 0
-Ordered f = f .top < 1099511627776
+Ordered f = Holds (ordered f)
+
+-- the promise of `is_ordered`
+abbrev pub SaysOrdered : Front → Bool → Type 0
+SaysOrdered f r = Tells r (ordered f)
 
 -- f is what `start` becomes as l is passed: where all came in order, each of l is apart from all before it, whatever `start` bounds standing
 -- first

@@ -1,16 +1,22 @@
--- A frontier as one item is passed, and as a list is.
+-- What a frontier says of order is settled; a frontier as one item is passed, and as a list is.
 -- Assumes nothing.
 use Prim.Native.Nat.{ℕ, _+_, _≤_}
 use mathlib.Core.List.{List, [], _∷_, _++_, append-assoc, append-nil}
 use mathlib.Core.Logic.{inl, inr}
-use mathlib.Core.Path.{_≡_}
+use mathlib.Core.Bool.{Bool}
+use mathlib.Core.Path.{_≡_, sym, _∙_}
 use native.Mathlib.Omega.{arith}
 use Rattle.facts.specs.Fact.{Holds}
+use Rattle.facts.specs.FactLaws.{is-test}
 use Rattle.items.specs.declared.Item.{Item}
 use Rattle.items.specs.Items.{apart, apartFrom}
 use Rattle.items.specs.ItemsLaws.{each-so, each-more, apart-join}
 use Rattle.apart_front.specs.declared.Front.{Front}
-use Rattle.apart_front.specs.Fronts.{aside, Bounds, Ordered, Fronts}
+use Rattle.apart_front.specs.Fronts.{aside, Bounds, Ordered, SaysOrdered, Fronts}
+
+-- the promise of `is_ordered` admits one answer
+pub one-ordered : (f : Front) (r s : Bool) → SaysOrdered f r → SaysOrdered f s → r ≡ s
+one-ordered f r s a b = is-test a ∙ sym (is-test b)
 
 -- ---- one item, x: f becomes u
 

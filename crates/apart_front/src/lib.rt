@@ -1,10 +1,8 @@
 // Request #107, rule 26: where items come in order, each is known to lie apart from all that is passed by comparing it with a frontier.
 use items::Item;
-ghost use mathlib.Core.Bool.{true};
 ghost use mathlib.Core.List.{[], _∷_};
-ghost use mathlib.Core.Path.{_≡_};
 ghost use Prim.Native.Nat.{_+_, _<_};
-ghost use Rattle.apart_front.specs.Fronts.{Ordered, Fronts};
+ghost use Rattle.apart_front.specs.Fronts.{SaysOrdered, Fronts};
 
 // All that is passed lies below low or in high..top, so that low..high and all from top on is free. A top of 1 TiB or more, below which every
 // item ends, says that something came out of order. (A flag would pad the struct, and copying the padding costs more than all comparisons.)
@@ -16,7 +14,7 @@ pub struct Front {
 
 // Whether all came in order.
 pub fn is_ordered(f: Front) -> bool
-    ensures { λ r. ⌜ (r ≡ true → Ordered f) ⌝ }
+    ensures { λ r. ⌜ SaysOrdered f r ⌝ }
 {
     if f.top < 1099511627776 {
         return true;

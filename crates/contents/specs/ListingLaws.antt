@@ -18,7 +18,7 @@ use Rattle.items.specs.Items.{word, wordsIn}
 use Rattle.inside_judge.specs.Rules.{patchFrom, patchItems}
 use Rattle.inside_judge.specs.RulesLaws.{patches-count}
 use Rattle.answers.specs.declared.Reading.{Reading}
-use Rattle.reading_rules.specs.Reading.{entriesAt, fileAt, wordAt, reading}
+use Rattle.reading_rules.specs.Reading.{entriesAt, fileAt, wordAt, reading, Read}
 use Rattle.answers.specs.AfterLaws.{after-accepted, after-refused}
 use Rattle.reading_rules.specs.Guarantee.{Guaranteed, guaranteed}
 use Rattle.reading_rules.specs.Words.{met, wordsOf}
@@ -129,11 +129,11 @@ module _ (xs : List ℕ) (room : ℕ) where
   abbrev own : Rules Listed
   own = answer (counted (cond (test (4 * length (listing xs) ≤? room)) 0 20) (countsOf (listing xs)))
 
-  pub list-unread : (reading xs .number ≡ 0 → ⊥) → contents xs room ≡ refusedList (reading xs .number) (reading xs .index)
+  pub list-unread : (Read xs → ⊥) → contents xs room ≡ refusedList (reading xs .number) (reading xs .index)
   unfolding contents
   list-unread h = after-refused refusedList (reading xs) own h
 
-  module _ (ok : reading xs .number ≡ 0) where
+  module _ (ok : Read xs) where
     judged : contents xs room ≡ counted (cond (test (4 * length (listing xs) ≤? room)) 0 20) (countsOf (listing xs))
     unfolding contents run
     judged = after-accepted refusedList (reading xs) own ok
@@ -150,7 +150,7 @@ module _ (xs : List ℕ) (room : ℕ) where
           judged ∙ rw (passes (4 * length (listing xs) ≤? room) (omega arith)) (ap (λ (q : Counts). counted 0 q) (sym totals))
 
   -- what an accepted call has passed
-  pub list-accepted : contents xs room .number ≡ 0 → (reading xs .number ≡ 0) × (4 * length (listing xs) ≤ room)
+  pub list-accepted : contents xs room .number ≡ 0 → Read xs × (4 * length (listing xs) ≤ room)
   list-accepted e =
       elim (ℕ-discrete (reading xs .number) 0) [
         | no h ↦ absurd (h (ap (λ (a : Listed). a .number) (sym (list-unread h)) ∙ e))
@@ -162,15 +162,15 @@ module _ (xs : List ℕ) (room : ℕ) where
       ]
 
 -- the words of the list of an image that reads are the words of its move, and as many are counted
-pub listed-words : (xs : List ℕ) → reading xs .number ≡ 0 → wordsFrom (listing xs) ≡ wordsIn (met xs (reading xs))
+pub listed-words : (xs : List ℕ) → Read xs → wordsFrom (listing xs) ≡ wordsIn (met xs (reading xs))
 unfolding listing
 listed-words xs ok = words-listed xs (reading xs) (guaranteed xs ok)
 
-pub words-counted : (xs : List ℕ) (room : ℕ) → reading xs .number ≡ 0 → contents xs room .words ≡ wordsOf xs (reading xs) .count
+pub words-counted : (xs : List ℕ) (room : ℕ) → Read xs → contents xs room .words ≡ wordsOf xs (reading xs) .count
 words-counted xs room ok = ap (λ (a : Listed). a .words) (judged xs room ok) ∙ ap length (listed-words xs ok)
 
 -- no count is near 2^64
-pub counts-few : (xs : List ℕ) → Bytes xs → reading xs .number ≡ 0
+pub counts-few : (xs : List ℕ) → Bytes xs → Read xs
     → let n = countsOf (listing xs) in
     (n .modules ≤ 576460752303424513) × (n .words ≤ 576460752303424513) × (n .entries ≤ 576460752303424513)
 unfolding listing

@@ -14,7 +14,7 @@ use Rattle.words.specs.Put.{putAll}
 use Rattle.words.specs.PutLaws.{putAll-above, le-putAll}
 use Rattle.inside_judge.specs.Rules.{patchFrom}
 use Rattle.answers.specs.declared.Reading.{Reading}
-use Rattle.reading_rules.specs.Reading.{entriesAt, fileAt, reading}
+use Rattle.reading_rules.specs.Reading.{entriesAt, fileAt, reading, Read}
 use Rattle.reading_rules.specs.Guarantee.{Guaranteed, guaranteed}
 use Rattle.answers.specs.AfterLaws.{changed-so, kept-so}
 use Rattle.reading_rules.specs.Numbers.{Numbered, OwnList}
@@ -50,7 +50,7 @@ coded-narrow xs r g i zero h = tt
 coded-narrow xs r g i (suc k) h =
     (omega (arith, g .word-within i (omega arith), g .length-most), coded-narrow xs r g (suc i) k (omega arith))
 
-listing-narrow : (xs : List ℕ) → reading xs .number ≡ 0 → Narrow (listing xs)
+listing-narrow : (xs : List ℕ) → Read xs → Narrow (listing xs)
 unfolding listing entriesFor
 listing-narrow xs ok =
     let r = reading xs in

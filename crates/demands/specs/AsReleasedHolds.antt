@@ -1,7 +1,7 @@
 -- A file that is as released is so byte for byte; and that speaks of something.
 -- Assumes nothing.
 use Prim.Native.Nat.{ℕ}
-use mathlib.Core.List.{List, []}
+use mathlib.Core.List.{List}
 use mathlib.Core.Path.{_≡_, refl, sym, ap, _∙_}
 use native.Mathlib.Omega.{arith}
 use native.Mathlib.Decide.{decLt, ℕ-discrete}
@@ -9,7 +9,7 @@ use lib.ListN.{length, getD}
 use lib.Seq.{ext-getD}
 use Rattle.words.specs.Le.{Bytes}
 use Rattle.answers.specs.declared.Reading.{Reading}
-use Rattle.reading_rules.specs.Reading.{reading}
+use Rattle.reading_rules.specs.Reading.{reading, Read}
 use Rattle.reading_rules.specs.Guarantee.{guaranteed}
 use Rattle.reading_rules.specs.Small.{small, settingBytes}
 use Rattle.answers.specs.declared.Moved.{Moved}
@@ -24,13 +24,13 @@ use Rattle.audit_count.specs.DifferenceLaws.{counts}
 use Rattle.answers.specs.declared.Audited.{Audited}
 use Rattle.audit.specs.Audit.{shippedBase, reference, differing, auditing}
 use Rattle.audit.specs.AuditLaws.{Accepted, audit-accepted}
-use Rattle.demands.specs.Explained.{told-always, told-counts, differs-at, all-listed}
+use Rattle.demands.specs.Explained.{told-always, told-number, differs-at, all-listed}
 use Rattle.demands.specs.Met.{maker-bytes, maker-reads, maker-goes, sample-bytes}
 use Rattle.demands.specs.AsReleased.{As-released, Clean}
 
 -- ---- it holds
 
-module _ (xs ys : List ℕ) (bytes : Bytes xs) (read : reading xs .number ≡ 0) where
+module _ (xs ys : List ℕ) (bytes : Bytes xs) (read : Read xs) where
   -- the reference at the file's own base is the image where that is its base
   reference-same : shippedBase xs ys ≡ reading xs .base → reference xs ys ≡ xs
   unfolding reference movedImage
@@ -56,7 +56,7 @@ module _ (xs ys places : List ℕ) (bytes : Bytes xs) (ok : auditing xs ys (leng
   true-counts : (auditing xs ys (length places) .base ≡ shippedBase xs ys) ×
       (auditing xs ys (length places) .settings ≡ settings (reading xs) (differing xs ys))
       × (auditing xs ys (length places) .strays ≡ strays (reading xs) (differing xs ys))
-  true-counts = let t = told-always xs ys places (passed .read) (passed .paired) (passed .legal) in (t .0, t .1, t .2)
+  true-counts = let t = told-always xs ys (length places) (passed .read) (passed .paired) (passed .legal) in (t .0, t .1, t .2)
 
   clean-same : Clean (auditing xs ys (length places)) (reading xs .base) → ys ≡ xs
   clean-same (no-settings, no-strays, home) =
@@ -100,7 +100,7 @@ file-audits =
     let maker = small 0xFFF80000 0xFFF80040 (settingBytes 0 1) in
     let bytes = bytes-released maker sample 0x00100000 two 1 maker-goes maker-bytes sample-bytes in
     let reads = released-reads maker sample 0x00100000 two 1 maker-goes maker-bytes sample-bytes in
-    let read : reading file .number ≡ 0 = ap (λ (r : Reading). r .number) reads ∙ maker-reads in
+    let read : Read file = ap (λ (r : Reading). r .number) reads ∙ maker-reads in
     let home = same-base file file bytes read refl in
     let none = same-nowhere file file bytes read refl in
-    told-counts file file [] read refl (rw home (guaranteed file read .legal)) (omega arith) .0
+    told-number file file 0 read refl (rw home (guaranteed file read .legal)) (omega arith)

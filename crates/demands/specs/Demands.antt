@@ -1,7 +1,7 @@
--- The three demands of document 01, each said of every outcome that the promises of the calls admit. What is below `-- ----` proves them
--- from the laws; what they say is above it.
+-- The three demands of document 01, each said of every outcome that the promises of the calls admit; `DemandsHold` proves them from the
+-- laws. Of demand 1 "exactly then" stands in `Exactly`.
 -- Assumes nothing.
-use Prim.Native.Nat.{ℕ, _+_, _%_, _^_, _≤_, _<_}
+use Prim.Native.Nat.{ℕ, _+_, _*_, _%_, _^_, _≤_, _<_}
 use mathlib.Core.Bool.{true, false}
 use mathlib.Core.List.{List}
 use mathlib.Core.Logic.{_⊎_}
@@ -11,7 +11,7 @@ use Rattle.facts.specs.Fact.{Holds}
 use Rattle.words.specs.Le.{le, Bytes}
 use Rattle.header.specs.Base.{legalBase}
 use Rattle.answers.specs.declared.Reading.{Reading}
-use Rattle.reading_rules.specs.Reading.{rebased, reading, Reads}
+use Rattle.reading_rules.specs.Reading.{rebased, reading, Read, Reads}
 use Rattle.reading_rules.specs.Numbers.{Numbered, None}
 use Rattle.answers.specs.declared.Moved.{Moved}
 use Rattle.moves.specs.Moves.{difference, Beside}
@@ -35,6 +35,7 @@ use Rattle.audit.specs.Audit.{shippedBase, reference, Audits, AuditsBytes}
 use Rattle.reading_rules.specs.Numbers.{OwnAudit}
 use Rattle.audit_count.specs.Differences.{entry, settings, strays, bits}
 use Rattle.demands.specs.Explains.{Turns}
+use Rattle.demands.specs.Stored.{Store, inPlaces, inBytes}
 use Rattle.demands.specs.Made.{Made}
 use Rattle.demands.specs.Makes.{Makes}
 
@@ -90,12 +91,13 @@ Demand2-accepted =
     (xs s : List ℕ) (base : ℕ) (o : List ℕ) (owner : ℕ) (r : Moved) (ys : List ℕ) → Releases xs s base o owner r ys
     → (r .number ≡ 0 → Releasable xs s base o owner) × (Releasable xs s base o owner → r .number ≡ 0)
 
--- ---- demand 3, an audit of a file of the vendor image's length that has a legal base: ks are the positions where it isn't the
--- reference, each once and ascending, and no others; base and counts are true; with room the list has each of them, marked as a setting
--- or a stray, and keeps what it held after them, and "explained" is said exactly where some legal base and some setting bytes turn the
--- vendor image into the file, that base being the one named; without room the answer is 20, never explained, and the list is as it was
+-- ---- demand 3, an audit of a file of the vendor image's length that has a legal base, whose list holds entries in places or in bytes: ks
+-- are the positions where the file isn't the reference, each once and ascending, and no others; base and counts are true; with room the list
+-- has each of them, marked as a setting or a stray, and keeps what it held after them, and "explained" is said exactly where some legal base
+-- and some setting bytes turn the vendor image into the file, that base being the one named; without room the answer is 20, never
+-- explained, and the list is as it was
 
-pub record Audited-right (xs ys places : List ℕ) (a : Audited) (l ks : List ℕ) : Type 0 where
+pub record Audited-right (st : Store) (xs ys before : List ℕ) (a : Audited) (l ks : List ℕ) : Type 0 where
   pub ascends : (i j : ℕ) → i < j → j < length ks → getD ks i 0 < getD ks j 0
   pub differs : (i : ℕ) → i < length ks → (getD ks i 0 < length xs) × (getD ys (getD ks i 0) 0 ≡ getD (reference xs ys) (getD ks i 0) 0 → ⊥)
   pub all : (k : ℕ) → k < length xs → (getD ys k 0 ≡ getD (reference xs ys) k 0 → ⊥) → (i : ℕ) × (i < length ks) × (getD ks i 0 ≡ k)
@@ -103,17 +105,22 @@ pub record Audited-right (xs ys places : List ℕ) (a : Audited) (l ks : List �
   pub settings-true : a .settings ≡ settings (reading xs) ks
   pub strays-true : a .strays ≡ strays (reading xs) ks
   pub bits-true : a .bits ≡ bits (reference xs ys) ys (reading xs) ks
-  pub number : length ks ≤ length places → a .number ≡ 0
-  pub marked : length ks ≤ length places → (i : ℕ) → i < length ks → getD l i 0 ≡ entry (reading xs) (getD ks i 0)
-  pub kept : length ks ≤ length places → (i : ℕ) → length ks ≤ i → getD l i 0 ≡ getD places i 0
-  pub shown : length ks ≤ length places → a .explained ≡ true → (base : ℕ) × (part : List ℕ) × Turns xs ys base part
-  pub said : length ks ≤ length places → (base : ℕ) (part : List ℕ) → Turns xs ys base part → (a .explained ≡ true) × (a .base ≡ base)
-  pub short : length places < length ks → (a .number ≡ 20) × (a .explained ≡ false) × (l ≡ places)
+  pub number : length ks ≤ st .room before → a .number ≡ 0
+  pub marked : length ks ≤ st .room before → (i : ℕ) → i < length ks → st .entry l i ≡ entry (reading xs) (getD ks i 0)
+  pub kept : length ks ≤ st .room before → (i : ℕ) → st .size * length ks ≤ i → getD l i 0 ≡ getD before i 0
+  pub long : length l ≡ length before
+  pub shown : length ks ≤ st .room before → a .explained ≡ true → (base : ℕ) × (part : List ℕ) × Turns xs ys base part
+  pub said : length ks ≤ st .room before → (base : ℕ) (part : List ℕ) → Turns xs ys base part → (a .explained ≡ true) × (a .base ≡ base)
+  pub short : st .room before < length ks → (a .number ≡ 20) × (a .explained ≡ false) × (l ≡ before)
+
+-- of a call with this promise whose list holds entries so
+abbrev pub Demand3-of : Store → (List ℕ → List ℕ → List ℕ → Audited → List ℕ → Type 0) → Type 0
+Demand3-of st Promise =
+    (xs ys before : List ℕ) (a : Audited) (l : List ℕ) → Bytes xs → Read xs → length ys ≡ length xs
+    → Holds (legalBase (length xs) (shippedBase xs ys)) → Promise xs ys before a l → (ks : List ℕ) × Audited-right st xs ys before a l ks
 
 abbrev pub Demand3 : Type 0
-Demand3 =
-    (xs ys places : List ℕ) (a : Audited) (l : List ℕ) → Bytes xs → reading xs .number ≡ 0 → length ys ≡ length xs
-    → Holds (legalBase (length xs) (shippedBase xs ys)) → Audits xs ys places a l → (ks : List ℕ) × Audited-right xs ys places a l ks
+Demand3 = Demand3-of inPlaces Audits × Demand3-of inBytes AuditsBytes
 
 -- ---- explained means released: an accepted audit says "explained" exactly where one release, some sheet and some legal base by some owner
 -- of some list, makes the file of the vendor image, and names that base
@@ -128,4 +135,4 @@ Explained-released =
 
 abbrev pub Chain-one : Type 0
 Chain-one =
-    (xs zs : List ℕ) (base : ℕ) → Bytes xs → reading xs .number ≡ 0 → Made xs zs base → (s : List ℕ) × (o : List ℕ) × Makes xs zs base s o 1
+    (xs zs : List ℕ) (base : ℕ) → Bytes xs → Read xs → Made xs zs base → (s : List ℕ) × (o : List ℕ) × Makes xs zs base s o 1

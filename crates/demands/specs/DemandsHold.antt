@@ -1,13 +1,18 @@
 -- The three demands, "explained means released" and "a chain is one release" hold.
 -- Assumes nothing.
-use Prim.Native.Nat.{ℕ, _/_}
+use Prim.Native.Nat.{ℕ, _*_, _/_, _≤_, _<_}
 use mathlib.Core.Bool.{true}
 use mathlib.Core.List.{List}
 use mathlib.Core.Logic.{_⊎_, inl, inr}
 use mathlib.Core.Path.{_≡_, refl, sym, ap, _∙_}
-use lib.ListN.{length}
+use native.Mathlib.Omega.{arith}
+use lib.ListN.{length, getD}
+use Rattle.facts.specs.Fact.{Holds}
 use Rattle.facts.specs.Rules.{run}
 use Rattle.facts.specs.RulesLaws.{by-test}
+use Rattle.words.specs.Le.{Bytes}
+use Rattle.header.specs.Base.{legalBase}
+use Rattle.reading_rules.specs.Reading.{reading, Read}
 use Rattle.reading_rules.specs.NumbersLaws.{numbered}
 use Rattle.answers.specs.declared.Moved.{Moved}
 use Rattle.sheet.specs.declared.SheetReading.{SheetReading}
@@ -19,6 +24,7 @@ use Rattle.release.specs.ReleaseLaws.{release-kept, release-shows, release-acce
 use Rattle.release_laws.specs.Theorems.{release-numbered, released-fits, set-then-moved, moved-then-set, released-reads, released-entry, released-word, released-other, entry-beside, empty-moves, present-sets, there-and-back}
 use Rattle.contents.specs.Theorems.{listing-numbered, contents-kept}
 use Rattle.answers.specs.declared.Audited.{Audited}
+use Rattle.audit_count.specs.Differences.{entry}
 use Rattle.audit.specs.Audit.{shippedBase, differing, auditing}
 use Rattle.audit.specs.AuditLaws.{audit-numbered, list-kept, bytes-kept, Accepted, audit-accepted, names, fits}
 use Rattle.demands.specs.Made.{Made, start, then}
@@ -26,8 +32,10 @@ use Rattle.demands.specs.MadeLaws.{made-explains}
 use Rattle.demands.specs.Always.{made-explained}
 use Rattle.demands.specs.Makes.{Makes}
 use Rattle.demands.specs.MakesLaws.{explains-made}
-use Rattle.demands.specs.Explained.{explained-shows, ascending, differs-at, all-listed, told-always, told-counts, place-is, place-kept, too-short, turned}
-use Rattle.demands.specs.Demands.{Chain-one, Demand1, Demand2, Demand2-accepted, Demand3, Explained-released}
+use Rattle.demands.specs.Explained.{explained-shows, ascending, differs-at, all-listed, told-always, told-number, told-short, turned}
+use Rattle.demands.specs.Stored.{Store, inPlaces, inBytes}
+use Rattle.demands.specs.StoredLaws.{length-listed, place-is, place-kept, length-listed-bytes, bytes-are, byte-kept}
+use Rattle.demands.specs.Demands.{Audited-right, Chain-one, Demand1, Demand2, Demand2-accepted, Demand3, Explained-released}
 
 -- ---- they hold
 
@@ -72,12 +80,18 @@ demand-2-accepted xs s base o owner r ys (answer, image) = (
   λ h. ap (λ (m : Moved). m .number) (answer ∙ release-accepted xs s base o owner h),
 )
 
-pub demand-3 : Demand3
-demand-3 xs ys places a l b ok long legal (answer, list) =
-    let ks = differing xs ys in
-    let true-counts = told-always xs ys places ok long legal in
-    let short = too-short xs ys places ok long legal in (
-      ks,
+-- demand 3 of any way to store entries, by what a call leaves in its list
+module _ (st : Store) (xs ys before : List ℕ) (a : Audited) (l : List ℕ) (b : Bytes xs) (ok : Read xs) (long : length ys ≡ length xs)
+    (legal : Holds (legalBase (length xs) (shippedBase xs ys))) (answer : a ≡ auditing xs ys (st .room before))
+    (marked : auditing xs ys (st .room before) .number ≡ 0 → (i : ℕ) → i < length (differing xs ys)
+    → st .entry l i ≡ entry (reading xs) (getD (differing xs ys) i 0))
+    (kept : auditing xs ys (st .room before) .number ≡ 0 → (i : ℕ) → st .size * length (differing xs ys) ≤ i
+    → getD l i 0 ≡ getD before i 0)
+    (as-long : length l ≡ length before) (unchanged : (auditing xs ys (st .room before) .number ≡ 0 → ⊥) → l ≡ before) where
+  audited-right : Audited-right st xs ys before a l (differing xs ys)
+  audited-right =
+      let n = st .room before in
+      let true-counts = told-always xs ys n ok long legal in
       record {
         ascends = ascending xs ys;
         differs = differs-at xs ys;
@@ -86,14 +100,32 @@ demand-3 xs ys places a l b ok long legal (answer, list) =
         settings-true = rw answer (true-counts .1);
         strays-true = rw answer (true-counts .2);
         bits-true = rw answer (true-counts .3);
-        number = λ room. rw answer (told-counts xs ys places ok long legal room .0);
-        marked = λ room. rw list (place-is xs ys places ok long legal room);
-        kept = λ room. rw list (place-kept xs ys places ok long legal room);
-        shown = λ room e. turned xs ys b ok places long legal room .0 (rw answer at e);
-        said = λ room base part t. rw answer (turned xs ys b ok places long legal room .1 base part t);
-        short = λ room. let s = short room in rw (answer, list) (s .0, s .1, s .6);
-      },
-    )
+        number = λ room. rw answer (told-number xs ys n ok long legal room);
+        marked = λ room. marked (told-number xs ys n ok long legal room);
+        kept = λ room. kept (told-number xs ys n ok long legal room);
+        long = as-long;
+        shown = λ room e. turned xs ys b ok n long legal room .0 (rw answer at e);
+        said = λ room base part t. rw answer (turned xs ys b ok n long legal room .1 base part t);
+        short = λ room.
+            let (number, explained) = told-short xs ys n ok long legal room in
+            (rw answer number, rw answer explained, unchanged (λ z. omega arith));
+      }
+
+pub demand-3 : Demand3
+demand-3 = (
+  (λ xs ys places a l b ok long legal is. (
+    differing xs ys,
+    audited-right inPlaces xs ys places a l b ok long legal (is .0) (λ z. rw (is .1) (place-is xs ys places z))
+        (λ z i h. rw (is .1) (place-kept xs ys places z i (omega arith))) (ap length (is .1) ∙ length-listed xs ys places)
+        (λ h. is .1 ∙ list-kept xs ys places h),
+  )),
+  (λ xs ys bytes a l b ok long legal is. (
+    differing xs ys,
+    audited-right inBytes xs ys bytes a l b ok long legal (is .0) (λ z. rw (is .1) (bytes-are xs ys bytes z))
+        (λ z. rw (is .1) (byte-kept xs ys bytes z)) (ap length (is .1) ∙ length-listed-bytes xs ys bytes)
+        (λ h. is .1 ∙ bytes-kept xs ys bytes h),
+  )),
+)
 
 pub explained-released : Explained-released
 explained-released xs ys places a l bx by zero (answer, list) = (shown, said)
@@ -108,12 +140,13 @@ explained-released xs ys places a l bx by zero (answer, list) = (shown, said)
     shown e =
         rw (answer, names xs ys (length places) ok)
         (explains-made xs ys bx by (passed .read) (shippedBase xs ys)
-        (explained-shows xs ys bx (passed .read) places (passed .paired) (passed .legal) (fits xs ys (length places) ok) (rw answer at e)))
+        (explained-shows xs ys bx (passed .read) (length places) (passed .paired) (passed .legal) (fits xs ys (length places) ok)
+        (rw answer at e)))
 
     said : (base : ℕ) (s o : List ℕ) (owner : ℕ) → Makes xs ys base s o owner → (a .explained ≡ true) × (a .base ≡ base)
     said base s o owner m =
         let made : Made xs ys base = rw (m .is) at (then start s base o owner (m .bytes) (m .goes)) in
-        rw answer (made-explained xs ys places base (passed .read) bx made (fits xs ys (length places) ok))
+        rw answer (made-explained xs ys (length places) base (passed .read) bx made (fits xs ys (length places) ok))
 
 pub chain-one : Chain-one
 chain-one xs zs base bx ok made =

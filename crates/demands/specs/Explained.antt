@@ -1,15 +1,15 @@
--- The list of an audit, which positions it holds and how, and demand 3: what "explained" says. All of it is said of the audit that the
--- promise of `audit` cites.
+-- Which positions an audit finds, what it counts, and demand 3: what "explained" says. All of it is said of the answer that the promises of
+-- `audit` and `audit_bytes` cite, with room for n entries.
 -- Assumes nothing.
 use mathlib.Core.Path.{_≡_, refl, sym, ap, _∙_}
-use mathlib.Core.List.{List, [], _∷_, _++_}
+use mathlib.Core.List.{List, [], _∷_}
 use mathlib.Core.Logic.{_⊎_, inl, inr}
 use mathlib.Core.Bool.{true, false}
 use Prim.Native.Nat.{ℕ, zero, suc, _+_, _-_, _≤_, _<_}
 use native.Mathlib.Omega.{arith}
 use native.Mathlib.Decide.{decLt, ℕ-discrete}
-use lib.ListN.{length, getD, take, drop, length-take, length-drop, List·getD-append, List·getD-eq-default}
-use lib.Seq.{ext-getD, sets, sets-eq, length-sets, getD-append-add, getD-take, getD-drop}
+use lib.ListN.{length, getD, take, drop, length-take, length-drop, List·getD-eq-default}
+use lib.Seq.{ext-getD, getD-take, getD-drop}
 use Rattle.facts.specs.Fact.{Fact, Holds, _≤?_, _≡?_, _and_, test}
 use Rattle.facts.specs.FactLaws.{passes, fails, holds}
 use Rattle.facts.specs.RulesLaws.{by-test}
@@ -17,17 +17,17 @@ use Rattle.words.specs.Le.{le, Bytes}
 use Rattle.words.specs.LeLaws.{le-cong}
 use Rattle.header.specs.Base.{legalBase}
 use Rattle.answers.specs.declared.Reading.{Reading}
-use Rattle.reading_rules.specs.Reading.{reading}
-use Rattle.answers.specs.AfterLaws.{changed-so, kept-so}
+use Rattle.reading_rules.specs.Reading.{reading, Read}
 use Rattle.reading_rules.specs.Guarantee.{guaranteed}
 use Rattle.move_image.specs.Moving.{movedImage}
 use Rattle.release_steps.specs.MoveStep.{length-after, moved-reads}
 use Rattle.sheet_bodies.specs.PartLaws.{length-joined, joined-low, joined-mid, joined-high}
 use Rattle.sheet_bodies.specs.Set.{joined}
 use Rattle.answers.specs.declared.Audited.{Audited}
-use Rattle.audit_count.specs.Differences.{agrees, differences, setting, entry, settings, strays, bits, entries}
-use Rattle.audit_count.specs.DifferenceLaws.{counts, length-entries}
-use Rattle.audit.specs.Audit.{shippedBase, reference, differing, tally, auditing, listed}
+use Rattle.reading_rules.specs.Settings.{settingsAt, settingsSize, OutsideSettings}
+use Rattle.audit_count.specs.Differences.{agrees, differences, setting, settings, strays, bits}
+use Rattle.audit_count.specs.DifferenceLaws.{counts}
+use Rattle.audit.specs.Audit.{shippedBase, reference, differing, tally, auditing}
 use Rattle.audit.specs.AuditLaws.{audit-told}
 use Rattle.demands.specs.Explains.{Turns, Explains}
 
@@ -111,15 +111,9 @@ module _ (xs ys : List ℕ) where
   unfolding differing
   all-listed k h differs = has (reference xs ys) ys 0 (length xs) k (omega arith) (omega arith) differs
 
--- ---- what is counted and listed of them
+-- ---- what is counted of them
 
 module _ (r : Reading) where
-  getD-entries : (ks : List ℕ) (i : ℕ) → i < length ks → getD (entries r ks) i 0 ≡ entry r (getD ks i 0)
-  unfolding entries
-  getD-entries [] i h = absurd (omega arith)
-  getD-entries (k ∷ ks) zero h = refl
-  getD-entries (k ∷ ks) (suc i) h = getD-entries ks i (omega arith)
-
   -- where there are no strays each position is a setting
   no-strays : (ks : List ℕ) → strays r ks ≡ 0 → (i : ℕ) → i < length ks → Holds (setting r (getD ks i 0))
   unfolding strays
@@ -143,27 +137,15 @@ fitting xs ys room = settings (reading xs) (differing xs ys) + strays (reading x
 abbrev clean : List ℕ → List ℕ → ℕ → Fact
 clean xs ys room = fitting xs ys room and strays (reading xs) (differing xs ys) ≡? 0
 
--- the list is as long as it was
-pub length-listed : (xs ys places : List ℕ) → length (listed xs ys places) ≡ length places
-unfolding listed
-length-listed xs ys places =
-    let number = auditing xs ys (length places) .number in
-    let es = entries (reading xs) (differing xs ys) in
-    elim (ℕ-discrete number 0) [
-      | yes e ↦ rw (changed-so number (sets places 0 es) places e) (length-sets places 0 es)
-      | no e ↦ rw (kept-so number (sets places 0 es) places e)
-    ]
-
-module _ (xs ys places : List ℕ) (ok : reading xs .number ≡ 0) (long : length ys ≡ length xs)
+module _ (xs ys : List ℕ) (n : ℕ) (ok : Read xs) (long : length ys ≡ length xs)
     (legal : Holds (legalBase (length xs) (shippedBase xs ys))) where
-  told : auditing xs ys (length places) ≡ tally xs ys (length places)
-  told = audit-told xs ys (length places) ok long legal
+  told : auditing xs ys n ≡ tally xs ys n
+  told = audit-told xs ys n ok long legal
 
   -- what it counts, whether there is room or not
-  pub told-always : (auditing xs ys (length places) .base ≡ shippedBase xs ys) ×
-      (auditing xs ys (length places) .settings ≡ settings (reading xs) (differing xs ys))
-      × (auditing xs ys (length places) .strays ≡ strays (reading xs) (differing xs ys)) ×
-      (auditing xs ys (length places) .bits ≡ bits (reference xs ys) ys (reading xs) (differing xs ys))
+  pub told-always : (auditing xs ys n .base ≡ shippedBase xs ys) × (auditing xs ys n .settings ≡ settings (reading xs) (differing xs ys))
+      × (auditing xs ys n .strays ≡ strays (reading xs) (differing xs ys)) ×
+      (auditing xs ys n .bits ≡ bits (reference xs ys) ys (reading xs) (differing xs ys))
   unfolding tally
   told-always = (
     ap (λ (a : Audited). a .base) told,
@@ -173,88 +155,44 @@ module _ (xs ys places : List ℕ) (ok : reading xs .number ≡ 0) (long : lengt
         (λ (a : Audited). a .bits) told,
   )
 
-  module _ (room : length (differing xs ys) ≤ length places) where
-    fits : Holds (fitting xs ys (length places))
+  module _ (room : length (differing xs ys) ≤ n) where
+    fits : Holds (fitting xs ys n)
     fits = rw counts room
 
-    told-number : auditing xs ys (length places) .number ≡ 0
+    -- the number of an audit with room
+    pub told-number : auditing xs ys n .number ≡ 0
     unfolding tally
-    told-number =
-        ap (λ (a : Audited). a .number) told
-        ∙ rw (passes (fitting xs ys (length places)) fits)
-
-    -- the answer of an audit with room
-    pub told-counts : (auditing xs ys (length places) .number ≡ 0) × (auditing xs ys (length places) .base ≡ shippedBase xs ys)
-        × (auditing xs ys (length places) .settings ≡ settings (reading xs) (differing xs ys)) ×
-        (auditing xs ys (length places) .strays ≡ strays (reading xs) (differing xs ys))
-        × (auditing xs ys (length places) .bits ≡ bits (reference xs ys) ys (reading xs) (differing xs ys))
-    told-counts = (told-number, told-always .0, told-always .1, told-always .2, told-always .3)
-
-    stored : listed xs ys places ≡ entries (reading xs) (differing xs ys) ++ drop (length (differing xs ys)) places
-    unfolding listed
-    stored =
-        let es = entries (reading xs) (differing xs ys) in
-        let e : length es ≡ length (differing xs ys) = length-entries (reading xs) (differing xs ys) in
-        let z : 0 + length es ≡ length (differing xs ys) = omega arith in
-        changed-so (auditing xs ys (length places) .number) (sets places 0 es) places told-number
-        ∙ sets-eq es places 0 (omega arith)
-        ∙ rw z
-
-    -- the place of the i-th difference holds its entry
-    pub place-is : (i : ℕ) → i < length (differing xs ys) → getD (listed xs ys places) i 0 ≡ entry (reading xs) (getD (differing xs ys) i 0)
-    place-is i h =
-        rw stored (List·getD-append (entries (reading xs) (differing xs ys)) (drop (length (differing xs ys)) places) 0 i
-        (rw length-entries h)
-        ∙ getD-entries (reading xs) (differing xs ys) i h)
-
-    -- what stands after the last entry stays
-    pub place-kept : (i : ℕ) → length (differing xs ys) ≤ i → getD (listed xs ys places) i 0 ≡ getD places i 0
-    place-kept i h =
-        let n = length (differing xs ys) in
-        let e : n + (i - n) ≡ i = omega arith in
-        rw stored (rw (length-entries, e) at (getD-append-add (entries (reading xs) (differing xs ys)) (drop n places) (i - n) 0)
-        ∙ getD-drop n places (i - n) 0 ∙ rw e)
+    told-number = ap (λ (a : Audited). a .number) told ∙ rw (passes (fitting xs ys n) fits)
 
     -- it says "explained" exactly where there are no strays
-    says-explained : auditing xs ys (length places) .explained ≡ test (clean xs ys (length places))
+    says-explained : auditing xs ys n .explained ≡ test (clean xs ys n)
     unfolding tally
     says-explained = ap (λ (a : Audited). a .explained) told
 
-    pub explained-strays : auditing xs ys (length places) .explained ≡ true → strays (reading xs) (differing xs ys) ≡ 0
-    explained-strays e = holds (clean xs ys (length places)) (sym says-explained ∙ e) .1
+    pub explained-strays : auditing xs ys n .explained ≡ true → strays (reading xs) (differing xs ys) ≡ 0
+    explained-strays e = holds (clean xs ys n) (sym says-explained ∙ e) .1
 
-    pub strays-explained : strays (reading xs) (differing xs ys) ≡ 0 → auditing xs ys (length places) .explained ≡ true
-    strays-explained z = says-explained ∙ passes (clean xs ys (length places)) (fits, z)
+    pub strays-explained : strays (reading xs) (differing xs ys) ≡ 0 → auditing xs ys n .explained ≡ true
+    strays-explained z = says-explained ∙ passes (clean xs ys n) (fits, z)
 
-  -- the answer of an audit without: 20, never explained, with base and true counts; and the list is what it was
-  pub too-short : length places < length (differing xs ys)
-      → (auditing xs ys (length places) .number ≡ 20) × (auditing xs ys (length places) .explained ≡ false) ×
-      (auditing xs ys (length places) .base ≡ shippedBase xs ys)
-      × (auditing xs ys (length places) .settings ≡ settings (reading xs) (differing xs ys)) ×
-      (auditing xs ys (length places) .strays ≡ strays (reading xs) (differing xs ys))
-      × (auditing xs ys (length places) .bits ≡ bits (reference xs ys) ys (reading xs) (differing xs ys)) × (listed xs ys places ≡ places)
-  unfolding tally listed
-  too-short short =
-      let p = fitting xs ys (length places) in
-      let over : Holds p → ⊥ = λ h. omega (arith, counts (reading xs) (differing xs ys)) in
-      let number : auditing xs ys (length places) .number ≡ 20 = ap (λ (a : Audited). a .number) told ∙ rw (fails p over) in (
-        number,
-        ap (λ (a : Audited). a .explained) told ∙ fails (clean xs ys (length places)) (λ h. over (h .0)),
-        told-always .0,
-        told-always .1,
-        told-always .2,
-        told-always .3,
-        kept-so (auditing xs ys (length places) .number) (sets places 0 (entries (reading xs) (differing xs ys))) places (λ z. omega arith),
+  -- the answer of an audit without: 20, never explained
+  pub told-short : n < length (differing xs ys) → (auditing xs ys n .number ≡ 20) × (auditing xs ys n .explained ≡ false)
+  unfolding tally
+  told-short short =
+      let p = fitting xs ys n in
+      let over : Holds p → ⊥ = λ h. omega (arith, counts (reading xs) (differing xs ys)) in (
+        ap (λ (a : Audited). a .number) told ∙ rw (fails p over),
+        ap (λ (a : Audited). a .explained) told ∙ fails (clean xs ys n) (λ h. over (h .0)),
       )
 
 -- ---- demand 3
 
-module _ (xs ys : List ℕ) (bytes : Bytes xs) (ok : reading xs .number ≡ 0) where
+module _ (xs ys : List ℕ) (bytes : Bytes xs) (ok : Read xs) where
   -- after a move the base word holds the new base
   new-base : (base : ℕ) → Holds (legalBase (length xs) base) → le 4 (movedImage xs base) (reading xs .H + 28) ≡ base
   new-base base legal =
       let reads = moved-reads xs bytes ok base legal in
-      let read : reading (movedImage xs base) .number ≡ 0 = ap (λ (r : Reading). r .number) reads ∙ ok in
+      let read : Read (movedImage xs base) = ap (λ (r : Reading). r .number) reads ∙ ok in
       sym (rw reads at (guaranteed (movedImage xs base) read .base-is))
 
   -- so a pair is explained by no base but the shipped one
@@ -264,14 +202,15 @@ module _ (xs ys : List ℕ) (bytes : Bytes xs) (ok : reading xs .number ≡ 0) w
       sym (le-cong 4 ys (movedImage xs base) at (record { same = λ j h. ex .same (at + j) (inl (omega (arith, guaranteed xs ok))) })
       ∙ new-base base (ex .legal))
 
-  region : (base : ℕ) → Holds (legalBase (length xs) base) → reading xs .c + 32 + (reading xs .z - 32) ≤ length (movedImage xs base)
+  region : (base : ℕ) → Holds (legalBase (length xs) base)
+      → settingsAt (reading xs) + settingsSize (reading xs) ≤ length (movedImage xs base)
   region base legal = rw (length-after xs bytes ok base legal) (omega (arith, guaranteed xs ok))
 
   -- what bytes a legal base and setting bytes leave
   pub turns-explains : (base : ℕ) (part : List ℕ) → Turns xs ys base part → Explains xs ys base
   turns-explains base part t =
-      let from = reading xs .c + 32 in
-      let size = reading xs .z - 32 in
+      let from = settingsAt (reading xs) in
+      let size = settingsSize (reading xs) in
       let fits = region base (t .legal) in
       record {
         legal = t .legal;
@@ -280,16 +219,18 @@ module _ (xs ys : List ℕ) (bytes : Bytes xs) (ok : reading xs .number ≡ 0) w
         same = λ k out. ap (λ (l : List ℕ). getD l k 0) (t .is) ∙ outside k out;
       }
     where
-      outside : (k : ℕ) → (k < reading xs .c + 32) ⊎ (reading xs .c + reading xs .z ≤ k)
-          → getD (joined (movedImage xs base) (reading xs .c + 32) (reading xs .z - 32) part) k 0 ≡ getD (movedImage xs base) k 0
-      outside k (inl h) = joined-low (movedImage xs base) (reading xs .c + 32) (reading xs .z - 32) part (region base (t .legal))
-          (t .long) k h
+      outside : (k : ℕ) → OutsideSettings (reading xs) k
+          → getD (joined (movedImage xs base) (settingsAt (reading xs)) (settingsSize (reading xs)) part) k 0
+          ≡ getD (movedImage xs base) k 0
+      outside k (inl h) =
+          joined-low (movedImage xs base) (settingsAt (reading xs)) (settingsSize (reading xs)) part (region base (t .legal)) (t .long) k h
       outside k (inr h) =
-          joined-high (movedImage xs base) (reading xs .c + 32) (reading xs .z - 32) part (region base (t .legal)) (t .long) k
+          joined-high (movedImage xs base) (settingsAt (reading xs)) (settingsSize (reading xs)) part (region base (t .legal)) (t .long) k
           (omega (arith, guaranteed xs ok))
 
   -- and the setting bytes that do it are the shipped file's own
-  pub explains-turns : (base : ℕ) → Explains xs ys base → Turns xs ys base (take (reading xs .z - 32) (drop (reading xs .c + 32) ys))
+  pub explains-turns : (base : ℕ) → Explains xs ys base
+      → Turns xs ys base (take (settingsSize (reading xs)) (drop (settingsAt (reading xs)) ys))
   explains-turns base ex =
       record {
         legal = ex .legal;
@@ -299,10 +240,10 @@ module _ (xs ys : List ℕ) (bytes : Bytes xs) (ok : reading xs .number ≡ 0) w
       }
     where
       from : ℕ
-      from = reading xs .c + 32
+      from = settingsAt (reading xs)
 
       size : ℕ
-      size = reading xs .z - 32
+      size = settingsSize (reading xs)
 
       part : List ℕ
       part = take size (drop from ys)
@@ -332,27 +273,27 @@ module _ (xs ys : List ℕ) (bytes : Bytes xs) (ok : reading xs .number ≡ 0) w
                 ]
           ]
 
-  module _ (places : List ℕ) (long : length ys ≡ length xs) (legal : Holds (legalBase (length xs) (shippedBase xs ys)))
-      (room : length (differing xs ys) ≤ length places) where
+  module _ (n : ℕ) (long : length ys ≡ length xs) (legal : Holds (legalBase (length xs) (shippedBase xs ys)))
+      (room : length (differing xs ys) ≤ n) where
     reference-is : reference xs ys ≡ movedImage xs (shippedBase xs ys)
     unfolding reference movedImage
     reference-is = refl
 
     -- "explained" shows that the shipped file is the vendor image moved to its own base, but for setting bytes
-    pub explained-shows : auditing xs ys (length places) .explained ≡ true → Explains xs ys (shippedBase xs ys)
+    pub explained-shows : auditing xs ys n .explained ≡ true → Explains xs ys (shippedBase xs ys)
     explained-shows e = record { legal = legal; long = long; same = byte }
       where
         none : strays (reading xs) (differing xs ys) ≡ 0
-        none = explained-strays xs ys places ok long legal room e
+        none = explained-strays xs ys n ok long legal room e
 
-        never : (k : ℕ) → (k < reading xs .c + 32) ⊎ (reading xs .c + reading xs .z ≤ k) → Holds (setting (reading xs) k) → ⊥
+        never : (k : ℕ) → OutsideSettings (reading xs) k → Holds (setting (reading xs) k) → ⊥
         never k (inl h) s = omega arith
         never k (inr h) s = omega arith
 
         found : (k : ℕ) → (i : ℕ) × (i < length (differing xs ys)) × (getD (differing xs ys) i 0 ≡ k) → Holds (setting (reading xs) k)
         found k (i, h, f) = rw f at (no-strays (reading xs) (differing xs ys) none i h)
 
-        byte : (k : ℕ) → (k < reading xs .c + 32) ⊎ (reading xs .c + reading xs .z ≤ k)
+        byte : (k : ℕ) → OutsideSettings (reading xs) k
             → getD ys k 0 ≡ getD (movedImage xs (shippedBase xs ys)) k 0
         byte k out =
             elim (decLt k (length xs)) [
@@ -369,11 +310,11 @@ module _ (xs ys : List ℕ) (bytes : Bytes xs) (ok : reading xs .number ≡ 0) w
             ]
 
     -- and where some legal base explains the pair the audit says so, with that base
-    pub explains-told : (base : ℕ) → Explains xs ys base → (base ≡ shippedBase xs ys) × (auditing xs ys (length places) .explained ≡ true)
+    pub explains-told : (base : ℕ) → Explains xs ys base → (base ≡ shippedBase xs ys) × (auditing xs ys n .explained ≡ true)
     explains-told base ex =
-        (explains-base base ex, strays-explained xs ys places ok long legal room (strays-none (reading xs) (differing xs ys) each))
+        (explains-base base ex, strays-explained xs ys n ok long legal room (strays-none (reading xs) (differing xs ys) each))
       where
-        same : (k : ℕ) → (k < reading xs .c + 32) ⊎ (reading xs .c + reading xs .z ≤ k) → getD ys k 0 ≡ getD (reference xs ys) k 0
+        same : (k : ℕ) → OutsideSettings (reading xs) k → getD ys k 0 ≡ getD (reference xs ys) k 0
         same k out =
             ex .same k out ∙ ap (λ (b : ℕ). getD (movedImage xs b) k 0) (explains-base base ex) ∙ ap (λ (l : List ℕ). getD l k 0)
             (sym reference-is)
@@ -382,7 +323,7 @@ module _ (xs ys : List ℕ) (bytes : Bytes xs) (ok : reading xs .number ≡ 0) w
         each i h =
             let k = getD (differing xs ys) i 0 in
             let differs : getD ys k 0 ≡ getD (reference xs ys) k 0 → ⊥ = differs-at xs ys i h .1 in
-            elim (decLt k (reading xs .c + 32)) [
+            elim (decLt k (settingsAt (reading xs))) [
               | yes low ↦ absurd (differs (same k (inl low)))
               | no low ↦
                   elim (decLt k (reading xs .c + reading xs .z)) [
@@ -393,21 +334,21 @@ module _ (xs ys : List ℕ) (bytes : Bytes xs) (ok : reading xs .number ≡ 0) w
 
     -- "explained" exactly where some legal base and some setting bytes turn the vendor image into the shipped one, and the base is then
     -- the answer's
-    pub turned : (auditing xs ys (length places) .explained ≡ true → (base : ℕ) × (part : List ℕ) × Turns xs ys base part)
-        × ((base : ℕ) (part : List ℕ) → Turns xs ys base part → (auditing xs ys (length places) .explained ≡ true) ×
-        (auditing xs ys (length places) .base ≡ base))
+    pub turned : (auditing xs ys n .explained ≡ true → (base : ℕ) × (part : List ℕ) × Turns xs ys base part)
+        × ((base : ℕ) (part : List ℕ) → Turns xs ys base part → (auditing xs ys n .explained ≡ true) ×
+        (auditing xs ys n .base ≡ base))
     turned = (shown, told-so)
       where
-        shown : auditing xs ys (length places) .explained ≡ true → (base : ℕ) × (part : List ℕ) × Turns xs ys base part
+        shown : auditing xs ys n .explained ≡ true → (base : ℕ) × (part : List ℕ) × Turns xs ys base part
         shown e = (
           shippedBase xs ys,
-          take (reading xs .z - 32) (drop (reading xs .c + 32) ys),
+          take (settingsSize (reading xs)) (drop (settingsAt (reading xs)) ys),
           explains-turns (shippedBase xs ys)
               (explained-shows e),
         )
 
         told-so : (base : ℕ) (part : List ℕ) → Turns xs ys base part
-            → (auditing xs ys (length places) .explained ≡ true) × (auditing xs ys (length places) .base ≡ base)
+            → (auditing xs ys n .explained ≡ true) × (auditing xs ys n .base ≡ base)
         told-so base part t =
             let x = explains-told base (turns-explains base part t) in
-            (x .1, told-always xs ys places ok long legal .0 ∙ sym (x .0))
+            (x .1, told-always xs ys n ok long legal .0 ∙ sym (x .0))

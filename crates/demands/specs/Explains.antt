@@ -8,17 +8,18 @@ use lib.ListN.{length, getD}
 use Rattle.facts.specs.Fact.{Holds}
 use Rattle.header.specs.Base.{legalBase}
 use Rattle.reading_rules.specs.Reading.{reading}
+use Rattle.reading_rules.specs.Settings.{settingsAt, settingsSize, OutsideSettings}
 use Rattle.move_image.specs.Moving.{movedImage}
 use Rattle.sheet_bodies.specs.Set.{joined}
 
 -- this legal base and these setting bytes, c+32..c+z-1, turn xs into ys
 pub record Turns (xs ys : List ℕ) (base : ℕ) (part : List ℕ) : Type 0 where
   pub legal : Holds (legalBase (length xs) base)
-  pub long : length part ≡ reading xs .z - 32
-  pub is : ys ≡ joined (movedImage xs base) (reading xs .c + 32) (reading xs .z - 32) part
+  pub long : length part ≡ settingsSize (reading xs)
+  pub is : ys ≡ joined (movedImage xs base) (settingsAt (reading xs)) (settingsSize (reading xs)) part
 
 -- the same byte by byte: outside the settings part ys is the vendor image moved to this base
 pub record Explains (xs ys : List ℕ) (base : ℕ) : Type 0 where
   pub legal : Holds (legalBase (length xs) base)
   pub long : length ys ≡ length xs
-  pub same : (k : ℕ) → (k < reading xs .c + 32) ⊎ (reading xs .c + reading xs .z ≤ k) → getD ys k 0 ≡ getD (movedImage xs base) k 0
+  pub same : (k : ℕ) → OutsideSettings (reading xs) k → getD ys k 0 ≡ getD (movedImage xs base) k 0

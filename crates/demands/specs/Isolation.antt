@@ -1,5 +1,5 @@
 -- Document 02, #106: whatever one owner sends, accepted or refused, the others' bytes and answers are as if nothing had been sent, so long
--- as the list stays and that owner keeps the base. Over any sequence of releases. What it says stands above `-- ---- it holds`.
+-- as the list stays and that owner keeps the base. Over any sequence of releases (`Calls`); `IsolationHolds` proves it.
 -- Assumes nothing.
 use Prim.{Unit}
 use Prim.Native.Nat.{ℕ, _+_, _≤_, _<_}
@@ -10,37 +10,23 @@ use lib.Dec.{eqb}
 use lib.ListN.{length, getD}
 use Rattle.facts.specs.Fact.{Holds}
 use Rattle.words.specs.Le.{Bytes}
-use Rattle.reading_rules.specs.Reading.{rebased, reading}
+use Rattle.reading_rules.specs.Reading.{rebased, reading, Read}
 use Rattle.answers.specs.declared.Moved.{Moved}
 use Rattle.moves.specs.Moves.{Beside}
 use Rattle.move_image.specs.Moving.{movedWords}
-use Rattle.sheet.specs.Sheet.{count}
 use Rattle.owners.specs.Owners.{owned}
 use Rattle.release.specs.Release.{releasing, releasedImage}
+use Rattle.demands.specs.Calls.{Call, answerTo, after, afterAll, answers, SheetBytes}
 
--- a release that somebody asks for
-pub record Call : Type 0 where
-  pub sheet : List ℕ
-  pub base : ℕ
-  pub owner : ℕ
-
--- the image once all of them were made, one after the other, accepted or refused, with one list
-unfoldable pub afterAll : List ℕ → List ℕ → List Call → List ℕ
-afterAll xs o [] = xs
-afterAll xs o (c ∷ cs) = afterAll (releasedImage xs (c .sheet) (c .base) o (c .owner)) o cs
-
--- their answers
-unfoldable pub answers : List ℕ → List ℕ → List Call → List Moved
-answers xs o [] = []
-answers xs o (c ∷ cs) =
-    releasing xs (c .sheet) (c .base) o (c .owner) ∷ answers (releasedImage xs (c .sheet) (c .base) o (c .owner)) o cs
+-- the list stays: it is that of every call
+unfoldable pub OneList : List ℕ → List Call → Type 0
+OneList o [] = Unit {0}
+OneList o (c ∷ cs) = (c .list ≡ o) × OneList o cs
 
 -- the answers to those that aren't this owner's
-unfoldable pub answersBut : ℕ → List ℕ → List ℕ → List Call → List Moved
-answersBut w xs o [] = []
-answersBut w xs o (c ∷ cs) =
-    let rest = answersBut w (releasedImage xs (c .sheet) (c .base) o (c .owner)) o cs in
-    cond (eqb (c .owner) w) rest (releasing xs (c .sheet) (c .base) o (c .owner) ∷ rest)
+unfoldable pub answersBut : ℕ → List ℕ → List Call → List Moved
+answersBut w xs [] = []
+answersBut w xs (c ∷ cs) = let rest = answersBut w (after xs c) cs in cond (eqb (c .owner) w) rest (answerTo xs c ∷ rest)
 
 -- all of this owner's left out
 unfoldable pub without : ℕ → List Call → List Call
@@ -48,16 +34,9 @@ without w [] = []
 without w (c ∷ cs) = cond (eqb (c .owner) w) (without w cs) (c ∷ without w cs)
 
 -- each of this owner's that is accepted keeps the base
-unfoldable pub Keeps : ℕ → List ℕ → List ℕ → List Call → Type 0
-Keeps w xs o [] = Unit {0}
-Keeps w xs o (c ∷ cs) =
-    (c .owner ≡ w → releasing xs (c .sheet) (c .base) o (c .owner) .number ≡ 0 → c .base ≡ reading xs .base)
-    × Keeps w (releasedImage xs (c .sheet) (c .base) o (c .owner)) o cs
-
--- every sheet is a list of bytes, whatever bytes
-unfoldable pub SheetBytes : List Call → Type 0
-SheetBytes [] = Unit {0}
-SheetBytes (c ∷ cs) = Bytes (c .sheet) × SheetBytes cs
+unfoldable pub Keeps : ℕ → List ℕ → List Call → Type 0
+Keeps w xs [] = Unit {0}
+Keeps w xs (c ∷ cs) = (c .owner ≡ w → answerTo xs c .number ≡ 0 → c .base ≡ reading xs .base) × Keeps w (after xs c) cs
 
 -- the image's byte k isn't this owner's, the region being at `region`
 abbrev pub NotOf : List ℕ → ℕ → ℕ → ℕ → Type 0
@@ -66,20 +45,27 @@ NotOf o w region k = (j : ℕ) → k ≡ region + j → Holds (owned o w j) → 
 -- with all of owner w's releases and without them: the others get the same answers, the image reads the same, and every byte that isn't
 -- owner w's is the same
 pub record Isolated (xs o : List ℕ) (w : ℕ) (cs : List Call) : Type 0 where
-  pub same-answers : answersBut w xs o cs ≡ answers xs o (without w cs)
-  pub same-reading : reading (afterAll xs o cs) ≡ reading (afterAll xs o (without w cs))
-  pub same-length : length (afterAll xs o cs) ≡ length (afterAll xs o (without w cs))
-  pub same-bytes : (k : ℕ) → NotOf o w (reading xs .c) k → getD (afterAll xs o cs) k 0 ≡ getD (afterAll xs o (without w cs)) k 0
+  pub same-answers : answersBut w xs cs ≡ answers xs (without w cs)
+  pub same-reading : reading (afterAll xs cs) ≡ reading (afterAll xs (without w cs))
+  pub same-length : length (afterAll xs cs) ≡ length (afterAll xs (without w cs))
+  pub same-bytes : (k : ℕ) → NotOf o w (reading xs .c) k → getD (afterAll xs cs) k 0 ≡ getD (afterAll xs (without w cs)) k 0
 
+-- of any image, one that reads or not
 abbrev pub Isolation : Type 0
 Isolation =
-    (xs o : List ℕ) (w : ℕ) (cs : List Call) → Bytes xs → reading xs .number ≡ 0 → SheetBytes cs → Keeps w xs o cs → Isolated xs o w cs
+    (xs o : List ℕ) (w : ℕ) (cs : List Call) → Bytes xs → SheetBytes cs → OneList o cs → Keeps w xs cs → Isolated xs o w cs
+
+-- in the request's own words: each byte of another owner's ranges is as if owner w had sent nothing, whatever the list
+abbrev pub Theirs : Type 0
+Theirs =
+    (xs o : List ℕ) (w u : ℕ) (cs : List Call) → (u ≡ w → ⊥) → Bytes xs → SheetBytes cs → OneList o cs → Keeps w xs cs → (j : ℕ)
+    → Holds (owned o u j) → getD (afterAll xs cs) (reading xs .c + j) 0 ≡ getD (afterAll xs (without w cs)) (reading xs .c + j) 0
 
 -- ---- nobody's bytes: a byte of the settings part that is in no range is changed by no release
 
 abbrev pub Nobody's : Type 0
 Nobody's =
-    (xs s : List ℕ) (base : ℕ) (o : List ℕ) (owner : ℕ) → Bytes xs → Bytes s → reading xs .number ≡ 0 → (j : ℕ) → 32 ≤ j → j < reading xs .z
+    (xs s : List ℕ) (base : ℕ) (o : List ℕ) (owner : ℕ) → Bytes xs → Bytes s → Read xs → (j : ℕ) → 32 ≤ j → j < reading xs .z
     → (Holds (owned o 1 j) → ⊥) → (Holds (owned o 2 j) → ⊥)
     → getD (releasedImage xs s base o owner) (reading xs .c + j) 0 ≡ getD xs (reading xs .c + j) 0
 

@@ -1,7 +1,7 @@
 -- Request #106: isolation, nobody's bytes and what a move shows hold.
 -- Assumes nothing.
 use Prim.Native.Nat.{ℕ, zero, suc, _+_, _-_, _%_, _^_, _≤_, _<_}
-use mathlib.Core.Bool.{Bool, true, false}
+use mathlib.Core.Bool.{Bool, true, false, cond}
 use mathlib.Core.List.{List, [], _∷_}
 use mathlib.Core.Logic.{_⊎_, inl, inr}
 use mathlib.Core.Path.{_≡_, refl, sym, ap, _∙_}
@@ -10,13 +10,14 @@ use native.Mathlib.Decide.{ℕ-discrete, decLt}
 use borrow.Author.Tests.{eqb-true}
 use lib.Dec.{eqb}
 use lib.ListN.{length, getD}
-use Rattle.facts.specs.Fact.{Holds}
+use Rattle.facts.specs.Fact.{test, Holds}
+use Rattle.facts.specs.FactLaws.{holds, fails-not}
 use Rattle.words.specs.Le.{le, Bytes, Alike}
 use Rattle.words.specs.LeLaws.{le-cong}
 use Rattle.words.specs.PutLaws.{le-one}
 use Rattle.answers.specs.declared.Reading.{Reading}
 use Rattle.reading_rules.specs.Words.{met}
-use Rattle.reading_rules.specs.Reading.{rebased, reading}
+use Rattle.reading_rules.specs.Reading.{rebased, reading, Read}
 use Rattle.reading_rules.specs.Guarantee.{guaranteed}
 use Rattle.answers.specs.declared.Moved.{Moved}
 use Rattle.moves.specs.Moves.{difference, Beside}
@@ -24,16 +25,18 @@ use Rattle.moves.specs.MovesLaws.{find}
 use Rattle.move_image.specs.Moving.{movedWords}
 use Rattle.move_image.specs.MovingLaws.{same-words}
 use Rattle.reading_rules.specs.WordsLaws.{words-outside, beside}
+use Rattle.reading_rules.specs.Settings.{OutsideSettings}
 use Rattle.sheet.specs.Sheet.{count, offset}
 use Rattle.sheet_bodies.specs.Set.{fieldsOf, setImage}
-use Rattle.owners.specs.Owners.{ranges, rangeAt, listFits, owned}
+use Rattle.owners.specs.Owners.{ranges, rangeAt, holdsByte, listFits, owned}
 use Rattle.owners.specs.OwnersLaws.{ranges-ascend}
 use Rattle.release_steps.specs.SetStep.{unset-byte, length-after-set, bytes-after-set, set-reads, read-after}
 use Rattle.release_steps.specs.Within.{Within}
 use Rattle.release.specs.Release.{releasing, releasedImage}
-use Rattle.release.specs.ReleaseLaws.{release-kept, release-shows}
+use Rattle.release.specs.ReleaseLaws.{release-unread, release-kept, release-shows}
 use Rattle.release_laws.specs.Theorems.{released-reads, length-released, bytes-released, released-entry, released-word, released-other, present-sets}
-use Rattle.demands.specs.Isolation.{Call, Isolation, Keeps, Nobody's, NotOf, Seen, SheetBytes, afterAll, answers, answersBut, without}
+use Rattle.demands.specs.Calls.{Call, after, afterAll, answers, SheetBytes}
+use Rattle.demands.specs.Isolation.{Isolation, Keeps, Nobody's, NotOf, OneList, Seen, Theirs, answersBut, without}
 
 -- ---- it holds
 
@@ -73,7 +76,7 @@ module _ (xs s : List ℕ) (base : ℕ) (o : List ℕ) (owner : ℕ) (ok : relea
 record Together (o : List ℕ) (w region : ℕ) (ys zs : List ℕ) : Type 0 where
   left-bytes : Bytes ys
   right-bytes : Bytes zs
-  read : reading ys .number ≡ 0
+  read : Read ys
   reads : reading ys ≡ reading zs
   long : length ys ≡ length zs
   at : reading ys .c ≡ region
@@ -120,7 +123,7 @@ module _ (o : List ℕ) (w region : ℕ) (ys zs s : List ℕ) (base owner : ℕ)
   good = release-shows ys s base o owner ok .good .0
 
   -- a byte outside the settings part is nobody's
-  out-of-part : (k : ℕ) → (k < reading ys .c + 32) ⊎ (reading ys .c + reading ys .z ≤ k) → NotOf o w region k
+  out-of-part : (k : ℕ) → OutsideSettings (reading ys) k → NotOf o w region k
   out-of-part k (inl low) j e mine = omega (arith, t .at, owned-inside o (reading ys .z) w j good mine)
   out-of-part k (inr high) j e mine = omega (arith, t .at, owned-inside o (reading ys .z) w j good mine)
 
@@ -223,38 +226,111 @@ both-step o w region ys zs s base owner t bs =
 
 -- the two sides after it
 record Ended (o : List ℕ) (w region : ℕ) (ys zs : List ℕ) (cs : List Call) : Type 0 where
-  told : answersBut w ys o cs ≡ answers zs o (without w cs)
-  ends : Together o w region (afterAll ys o cs) (afterAll zs o (without w cs))
+  told : answersBut w ys cs ≡ answers zs (without w cs)
+  ends : Together o w region (afterAll ys cs) (afterAll zs (without w cs))
 
-sequence : (o : List ℕ) (w region : ℕ) (cs : List Call) (ys zs : List ℕ) → Together o w region ys zs → SheetBytes cs → Keeps w ys o cs
-    → Ended o w region ys zs cs
-unfolding afterAll answers answersBut without Keeps SheetBytes
-sequence o w region [] ys zs t b k = record { told = refl; ends = t }
-sequence o w region (c ∷ cs) ys zs t (bs, b) (keeps, k) =
-    go (eqb (c .owner) w) refl (λ zs₁ t₁. sequence o w region cs (releasedImage ys (c .sheet) (c .base) o (c .owner)) zs₁ t₁ b k)
+sequence : (o : List ℕ) (w region : ℕ) (cs : List Call) (ys zs : List ℕ) → Together o w region ys zs → SheetBytes cs → OneList o cs
+    → Keeps w ys cs → Ended o w region ys zs cs
+unfolding afterAll answers answersBut without Keeps SheetBytes OneList
+sequence o w region [] ys zs t b one k = record { told = refl; ends = t }
+sequence o w region (c ∷ cs) ys zs t (bs, b) (list, one) (keeps, k) =
+    go (eqb (c .owner) w) refl (λ zs₁ t₁. sequence o w region cs (after ys c) zs₁ t₁ b one k)
   where
-    ys₁ : List ℕ
-    ys₁ = releasedImage ys (c .sheet) (c .base) o (c .owner)
-
-    go : (e : Bool) → eqb (c .owner) w ≡ e → ((zs₁ : List ℕ) → Together o w region ys₁ zs₁ → Ended o w region ys₁ zs₁ cs)
+    go : (e : Bool) → eqb (c .owner) w ≡ e → ((zs₁ : List ℕ) → Together o w region (after ys c) zs₁ → Ended o w region (after ys c) zs₁ cs)
         → Ended o w region ys zs (c ∷ cs)
     go true e more =
         let own : c .owner ≡ w = eqb-true (c .owner) w e in
-        let step : Together o w region ys₁ zs = rw own (own-step o w region ys zs (c .sheet) (c .base) t bs (rw own at (keeps own))) in
+        let step : Together o w region (after ys c) zs =
+        rw (list, own) (own-step o w region ys zs (c .sheet) (c .base) t bs (rw (list, own) at (keeps own))) in
         let rest = more zs step in
         record { told = rw e (rest .told); ends = rw e (rest .ends) }
     go false e more =
-        let rest =
-        more (releasedImage zs (c .sheet) (c .base) o (c .owner)) (both-step o w region ys zs (c .sheet) (c .base) (c .owner) t bs) in
-        let a = same-answer ys zs (c .sheet) (c .base) o (c .owner) (t .reads) (t .long) in
+        let step : Together o w region (after ys c) (after zs c) =
+        rw list (both-step o w region ys zs (c .sheet) (c .base) (c .owner) t bs) in
+        let rest = more (after zs c) step in
+        let a = same-answer ys zs (c .sheet) (c .base) (c .list) (c .owner) (t .reads) (t .long) in
         record { told = rw (e, a, rest .told); ends = rw e (rest .ends) }
 
+-- ---- an image and a list with which every release is refused: nothing changes
+
+module _ (xs o : List ℕ) (none : (s : List ℕ) (base owner : ℕ) → releasing xs s base o owner .number ≡ 0 → ⊥) where
+  stays : (c : Call) → c .list ≡ o → after xs c ≡ xs
+  stays c list = rw list (release-kept xs (c .sheet) (c .base) o (c .owner) (none (c .sheet) (c .base) (c .owner)))
+
+  all-stays : (cs : List Call) → OneList o cs → afterAll xs cs ≡ xs
+  unfolding afterAll OneList
+  all-stays [] one = refl
+  all-stays (c ∷ cs) (list, one) = rw (stays c list) (all-stays cs one)
+
+  one-without : (w : ℕ) (cs : List Call) → OneList o cs → OneList o (without w cs)
+  unfolding OneList without
+  one-without w [] one = one
+  one-without w (c ∷ cs) (list, one) = go (eqb (c .owner) w) (one-without w cs one)
+    where
+      go : (e : Bool) → OneList o (without w cs) → OneList o (cond e (without w cs) (c ∷ without w cs))
+      go true more = more
+      go false more = (list, more)
+
+  all-answers : (w : ℕ) (cs : List Call) → OneList o cs → answersBut w xs cs ≡ answers xs (without w cs)
+  unfolding answersBut answers without OneList
+  all-answers w [] one = refl
+  all-answers w (c ∷ cs) (list, one) = go (eqb (c .owner) w) refl (all-answers w cs one)
+    where
+      go : (e : Bool) → eqb (c .owner) w ≡ e → answersBut w xs cs ≡ answers xs (without w cs)
+          → answersBut w xs (c ∷ cs) ≡ answers xs (without w (c ∷ cs))
+      go true e more = rw (e, stays c list) more
+      go false e more = rw (e, stays c list, more)
+
+  pub nothing-sent : (w : ℕ) (cs : List Call) → OneList o cs → afterAll xs cs ≡ afterAll xs (without w cs)
+  nothing-sent w cs one = all-stays cs one ∙ sym (all-stays (without w cs) (one-without w cs one))
+
 pub isolation : Isolation
-isolation xs o w cs bx ok bs keeps =
-    let start : Together o w (reading xs .c) xs xs =
-    record { left-bytes = bx; right-bytes = bx; read = ok; reads = refl; long = refl; at = refl; same = λ k not. refl } in
-    let r = sequence o w (reading xs .c) cs xs xs start bs keeps in
-    record { same-answers = r .told; same-reading = r .ends .reads; same-length = r .ends .long; same-bytes = r .ends .same }
+isolation xs o w cs bx bs one keeps =
+    elim (ℕ-discrete (reading xs .number) 0) [
+      | yes ok ↦
+          let start : Together o w (reading xs .c) xs xs =
+          record { left-bytes = bx; right-bytes = bx; read = ok; reads = refl; long = refl; at = refl; same = λ k not. refl } in
+          let r = sequence o w (reading xs .c) cs xs xs start bs one keeps in
+          record { same-answers = r .told; same-reading = r .ends .reads; same-length = r .ends .long; same-bytes = r .ends .same }
+      | no h ↦
+          let none : (s : List ℕ) (base owner : ℕ) → releasing xs s base o owner .number ≡ 0 → ⊥ =
+          (λ s base owner z. h (sym (ap (λ (m : Moved). m .number) (release-unread xs s base o owner h)) ∙ z)) in
+          let e = nothing-sent xs o none w cs one in
+          record {
+            same-answers = all-answers xs o none w cs one;
+            same-reading = ap (λ (l : List ℕ). reading l) e;
+            same-length = ap (λ (l : List ℕ). length l) e;
+            same-bytes = λ k not. ap (λ (l : List ℕ). getD l k 0) e;
+          }
+    ]
+
+-- a byte has one owner, by a good list
+one-owner : (o : List ℕ) (z u w j : ℕ) → Holds (listFits o z) → (u ≡ w → ⊥) → Holds (owned o u j) → Holds (owned o w j) → ⊥
+one-owner o z u w j good other mine theirs = mine (λ i h is. theirs (λ k g at. go i h is k g at))
+  where
+    go : (i : ℕ) → i < ranges o → Holds (holdsByte o u j i) → (k : ℕ) → k < ranges o → Holds (holdsByte o w j k) → ⊥
+    go i h is k g at =
+        elim (decLt i k) [
+          | yes l ↦ omega (arith, ranges-ascend o z good k i l g, is .1 .1, at .1 .0)
+          | no l ↦ elim (decLt k i) [
+            | yes m ↦ omega (arith, ranges-ascend o z good i k m h, at .1 .1, is .1 .0)
+            | no m ↦ let e : i ≡ k = omega arith in other (sym (is .0) ∙ rw e (at .0))
+          ]
+        ]
+
+pub theirs : Theirs
+theirs xs o w u cs other bx bs one keeps j mine = go (test (listFits o (reading xs .z))) refl
+  where
+    go : (b : Bool) → test (listFits o (reading xs .z)) ≡ b
+        → getD (afterAll xs cs) (reading xs .c + j) 0 ≡ getD (afterAll xs (without w cs)) (reading xs .c + j) 0
+    go true e =
+        isolation xs o w cs bx bs one keeps .same-bytes (reading xs .c + j)
+        (λ i at own. let same : j ≡ i = omega arith in
+        one-owner o (reading xs .z) u w i (holds (listFits o (reading xs .z)) e) other (rw same at mine) own)
+    go false e =
+        let none : (s : List ℕ) (base owner : ℕ) → releasing xs s base o owner .number ≡ 0 → ⊥ =
+        (λ s base owner z. fails-not (listFits o (reading xs .z)) e (release-shows xs s base o owner z .good .0)) in
+        ap (λ (l : List ℕ). getD l (reading xs .c + j) 0) (nothing-sent xs o none w cs one)
 
 pub seen : Seen
 seen xs s base o owner bx bs ok = (

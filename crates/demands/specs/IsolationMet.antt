@@ -2,13 +2,14 @@
 -- base, owner 2 sets its own and moves, owner 1 tries owner 2's bytes and is refused with 24, then sets its own again.
 -- Assumes nothing.
 use Prim.{tt}
-use Prim.Native.Nat.{ℕ, _≤_}
+use Prim.Native.Nat.{ℕ, _+_, _≤_}
 use mathlib.Core.List.{List, [], _∷_, _++_}
 use mathlib.Core.Path.{_≡_, refl, sym, ap, _∙_}
 use native.Mathlib.Omega.{arith}
 use lib.IntN.{negsuc}
-use lib.ListN.{length}
-use Rattle.facts.specs.Fact.{test, allBelow}
+use lib.ListN.{length, getD}
+use Rattle.facts.specs.Fact.{test, allBelow, Holds}
+use Rattle.facts.specs.FactLaws.{holds}
 use Rattle.facts.specs.Rules.{run}
 use Rattle.words.specs.Le.{le, Bytes}
 use Rattle.words.specs.Put.{digit}
@@ -21,14 +22,16 @@ use Rattle.answers.specs.declared.Moved.{Moved}
 use Rattle.move_answer.specs.MoveAnswer.{refusedMove}
 use Rattle.sheet.specs.Sheet.{bodyAt}
 use Rattle.sheet_bodies.specs.Small.{sample}
+use Rattle.owners.specs.Owners.{owned}
 use Rattle.release.specs.Release.{releasing, releasedImage}
 use Rattle.release_judge.specs.Judged.{nameRules, releaseRules}
 use Rattle.release.specs.ReleaseLaws.{release-kept}
 use Rattle.release_laws.specs.Small.{two}
 use Rattle.release_laws.specs.Theorems.{released-reads, length-released, bytes-released}
-use Rattle.demands.specs.Met.{bytes-so, maker-bytes, maker-reads, sample-bytes}
-use Rattle.demands.specs.Isolation.{Call, afterAll, answers, answersBut, without, Keeps, SheetBytes, Isolated}
-use Rattle.demands.specs.IsolationHolds.{isolation}
+use Rattle.demands.specs.Met.{bytes-so, maker-bytes, sample-bytes}
+use Rattle.demands.specs.Calls.{Call, afterAll, SheetBytes}
+use Rattle.demands.specs.Isolation.{OneList, answersBut, without, Keeps, Isolated}
+use Rattle.demands.specs.IsolationHolds.{isolation, theirs}
 
 -- a sheet for bytes 42 and 43, which are owner 2's
 unfoldable pub second : List ℕ
@@ -48,10 +51,10 @@ read-of = reading maker
 
 pub calls : List Call
 calls =
-    record { sheet = sample; base = 0xFFF80000; owner = 1 }
-    ∷ record { sheet = second; base = 0x00100000; owner = 2 }
-    ∷ record { sheet = second; base = 0x00100000; owner = 1 }
-    ∷ record { sheet = sample; base = 0x00100000; owner = 1 }
+    record { sheet = sample; base = 0xFFF80000; list = two; owner = 1 }
+    ∷ record { sheet = second; base = 0x00100000; list = two; owner = 2 }
+    ∷ record { sheet = second; base = 0x00100000; list = two; owner = 1 }
+    ∷ record { sheet = sample; base = 0x00100000; list = two; owner = 1 }
     ∷ []
 
 -- the image after each
@@ -133,7 +136,7 @@ again =
     (by-reading x₂ sample 0x00100000 1 _ (reads₂ ∙ ap (λ (r : Reading). rebased r 0x00100000) small-reads) long₂)
 
 -- owner 1 keeps the base throughout
-pub keeps : Keeps 1 maker two calls
+pub keeps : Keeps 1 maker calls
 unfolding Keeps calls x₁ x₂ x₃
 keeps = (
   (λ own ok. sym (ap (λ (r : Reading). r .base) small-reads)),
@@ -144,10 +147,22 @@ sheets : SheetBytes calls
 unfolding SheetBytes calls
 sheets = (sample-bytes, (second-bytes, (second-bytes, (sample-bytes, tt))))
 
+one-list : OneList two calls
+unfolding OneList calls
+one-list = (refl, (refl, (refl, (refl, tt))))
+
 -- so owner 2's bytes and its answer are as if owner 1 had sent nothing
 pub apart : Isolated maker two 1 calls
-apart = isolation maker two 1 calls maker-bytes maker-reads sheets keeps
+apart = isolation maker two 1 calls maker-bytes sheets one-list keeps
 
-pub only-answer : answersBut 1 maker two calls ≡ record { number = 0; index = 0; distance = negsuc 4293394431 } ∷ []
+-- region byte 42 is owner 2's, and is so too
+second-owned : Holds (owned two 2 42)
+unfolding test allBelow le number digit
+second-owned = holds (owned two 2 42) refl
+
+pub second-kept : getD (afterAll maker calls) (read-of .c + 42) 0 ≡ getD (afterAll maker (without 1 calls)) (read-of .c + 42) 0
+second-kept = theirs maker two 1 2 calls (λ e. omega arith) maker-bytes sheets one-list keeps 42 second-owned
+
+pub only-answer : answersBut 1 maker calls ≡ record { number = 0; index = 0; distance = negsuc 4293394431 } ∷ []
 unfolding answersBut calls x₁
 only-answer = ap (λ (m : Moved). m ∷ []) moved

@@ -2,6 +2,8 @@ pub mod Explains
 pub mod Made
 pub mod MadeLaws
 pub mod Explained
+pub mod Stored
+pub mod StoredLaws
 pub mod Always
 pub mod Sheets
 pub mod Lists
@@ -9,7 +11,11 @@ pub mod Makes
 pub mod MakesLaws
 pub mod Demands
 pub mod DemandsHold
+pub mod Exactly
+pub mod ExactlyHolds
 pub mod Met
+pub mod Calls
+pub mod CallsLaws
 pub mod Isolation
 pub mod IsolationHolds
 pub mod IsolationMet

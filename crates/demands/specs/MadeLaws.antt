@@ -13,10 +13,11 @@ use Rattle.words.specs.PutLaws.{le-one}
 use Rattle.header.specs.Base.{legalBase}
 use Rattle.answers.specs.declared.Reading.{Reading}
 use Rattle.reading_rules.specs.Words.{met}
-use Rattle.reading_rules.specs.Reading.{rebased, reading}
+use Rattle.reading_rules.specs.Reading.{rebased, reading, Read}
 use Rattle.reading_rules.specs.Guarantee.{guaranteed}
 use Rattle.reading_rules.specs.WordsLaws.{words-outside}
 use Rattle.reading_rules.specs.FrameBut.{AlikeBut, frame-but}
+use Rattle.reading_rules.specs.Settings.{OutsideSettings}
 use Rattle.moves.specs.Moves.{difference, Beside}
 use Rattle.moves.specs.MovesLaws.{find}
 use Rattle.move_image.specs.Moving.{movedWords, movedImage}
@@ -29,14 +30,10 @@ use Rattle.release_laws.specs.Theorems.{released-fits, released-legal, set-then
 use Rattle.demands.specs.Explains.{Explains}
 use Rattle.demands.specs.Made.{Made, start, then}
 
--- the byte at k lies outside the settings part
-abbrev Outside : Reading → ℕ → Type 0
-Outside r k = (k < r .c + 32) ⊎ (r .c + r .z ≤ k)
-
 -- ---- two images that agree outside the settings part
 
-module _ (ys zs : List ℕ) (fine : reading ys .number ≡ 0) (long : length zs ≡ length ys)
-    (same : (k : ℕ) → Outside (reading ys) k → getD zs k 0 ≡ getD ys k 0) where
+module _ (ys zs : List ℕ) (fine : Read ys) (long : length zs ≡ length ys)
+    (same : (k : ℕ) → OutsideSettings (reading ys) k → getD zs k 0 ≡ getD ys k 0) where
   base-alike : le 4 zs (reading ys .H + 28) ≡ reading ys .base
   base-alike =
       let g = guaranteed ys fine in
@@ -67,14 +64,14 @@ module _ (ys zs : List ℕ) (fine : reading ys .number ≡ 0) (long : length zs 
       go (inr a) = record { same = λ k l. same (w + k) (inr (omega arith)) }
 
   -- so they agree there after a move to one base
-  moves-alike : Bytes ys → Bytes zs → (next : ℕ) → Holds (legalBase (length ys) next) → (k : ℕ) → Outside (reading ys) k
+  moves-alike : Bytes ys → Bytes zs → (next : ℕ) → Holds (legalBase (length ys) next) → (k : ℕ) → OutsideSettings (reading ys) k
       → getD (movedImage zs next) k 0 ≡ getD (movedImage ys next) k 0
   moves-alike by bz next legal k out = go (find (movedWords ys) (movedWords ys .count) k)
     where
       words : met zs (reading zs) ≡ met ys (reading ys)
       words = same-words ys zs fine but-alike reads-alike
 
-      fine′ : reading zs .number ≡ 0
+      fine′ : Read zs
       fine′ = ap (λ (s : Reading). s .number) reads-alike ∙ fine
 
       legal′ : Holds (legalBase (length zs) next)
@@ -104,18 +101,18 @@ module _ (ys zs : List ℕ) (fine : reading ys .number ≡ 0) (long : length zs 
 
 -- ---- what explains an image
 
-module _ (xs : List ℕ) (ok : reading xs .number ≡ 0) (bytes : Bytes xs) where
+module _ (xs : List ℕ) (ok : Read xs) (bytes : Bytes xs) where
   module _ (zs : List ℕ) (base : ℕ) (bz : Bytes zs) (e : Explains xs zs base) where
     reads : reading (movedImage xs base) ≡ rebased (reading xs) base
     reads = moved-reads xs bytes ok base (e .legal)
 
-    fine : reading (movedImage xs base) .number ≡ 0
+    fine : Read (movedImage xs base)
     fine = ap (λ (r : Reading). r .number) reads ∙ ok
 
     long : length zs ≡ length (movedImage xs base)
     long = e .long ∙ sym (length-after xs bytes ok base (e .legal))
 
-    same : (k : ℕ) → Outside (reading (movedImage xs base)) k → getD zs k 0 ≡ getD (movedImage xs base) k 0
+    same : (k : ℕ) → OutsideSettings (reading (movedImage xs base)) k → getD zs k 0 ≡ getD (movedImage xs base) k 0
     same = rw reads (e .same)
 
     -- the image reads as the vendor image does, but for the base
@@ -125,7 +122,7 @@ module _ (xs : List ℕ) (ok : reading xs .number ≡ 0) (bytes : Bytes xs) wher
     -- an image that was explained is so after a move, by the new base
     explains-moved : (next : ℕ) → Holds (legalBase (length zs) next) → Explains xs (movedImage zs next) next
     explains-moved next goes =
-        let read : reading zs .number ≡ 0 = ap (λ (r : Reading). r .number) explained-reads ∙ ok in
+        let read : Read zs = ap (λ (r : Reading). r .number) explained-reads ∙ ok in
         let fine-base : Holds (legalBase (length xs) next) = rw (e .long) at goes in
         let fine-base′ : Holds (legalBase (length (movedImage xs base)) next) = rw (length-after xs bytes ok base (e .legal)) fine-base in
         record {
@@ -167,7 +164,7 @@ module _ (xs : List ℕ) (ok : reading xs .number ≡ 0) (bytes : Bytes xs) wher
       }
 
 -- all of it is explained by that base
-pub made-explains : (xs : List ℕ) → reading xs .number ≡ 0 → Bytes xs → {zs : List ℕ} {base : ℕ} → Made xs zs base
+pub made-explains : (xs : List ℕ) → Read xs → Bytes xs → {zs : List ℕ} {base : ℕ} → Made xs zs base
     → Bytes zs × Explains xs zs base
 made-explains xs ok bytes start = (bytes, explains-start xs ok bytes)
 made-explains xs ok bytes (then {zs} {base} m s next o owner bs goes) =

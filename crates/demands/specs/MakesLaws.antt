@@ -14,8 +14,9 @@ use Rattle.words.specs.LeLaws.{le-lt}
 use Rattle.header.specs.HeaderLaws.{extended-small}
 use Rattle.answers.specs.declared.Identity.{Identity}
 use Rattle.answers.specs.declared.Reading.{Reading}
-use Rattle.reading_rules.specs.Reading.{identityAt, rebased, reading}
+use Rattle.reading_rules.specs.Reading.{identityAt, rebased, reading, Read}
 use Rattle.reading_rules.specs.Guarantee.{guaranteed}
+use Rattle.reading_rules.specs.Settings.{settingsAt, settingsSize, OutsideSettings}
 use Rattle.move_image.specs.Moving.{movedImage}
 use Rattle.sheet.specs.Sheet.{offset, bodyAt, Sound}
 use Rattle.sheet_bodies.specs.Set.{setImage, Fits}
@@ -30,14 +31,14 @@ use Rattle.demands.specs.Lists.{all-to-1, all-good, all-owned, empty-goo
 use Rattle.demands.specs.Sheets.{whole, whole-names, whole-count, whole-byte, whole-offset, whole-size, whole-sound, whole-bytes, bare, bare-names, bare-count, bare-sound, bare-bytes}
 use Rattle.demands.specs.Makes.{Makes}
 
-module _ (xs ys : List ℕ) (bx : Bytes xs) (by : Bytes ys) (ok : reading xs .number ≡ 0) (base : ℕ) (e : Explains xs ys base) where
+module _ (xs ys : List ℕ) (bx : Bytes xs) (by : Bytes ys) (ok : Read xs) (base : ℕ) (e : Explains xs ys base) where
   abbrev ms : List ℕ
   ms = movedImage xs base
 
   reads : reading ms ≡ rebased (reading xs) base
   reads = moved-reads xs bx ok base (e .legal)
 
-  fine : reading ms .number ≡ 0
+  fine : Read ms
   fine = ap (λ (r : Reading). r .number) reads ∙ ok
 
   long : length ys ≡ length ms
@@ -70,19 +71,23 @@ module _ (xs ys : List ℕ) (bx : Bytes xs) (by : Bytes ys) (ok : reading xs .nu
 
   -- the shipped file's own settings part
   abbrev part : List ℕ
-  part = take (reading xs .z - 32) (drop (reading xs .c + 32) ys)
+  part = take (settingsSize (reading xs)) (drop (settingsAt (reading xs)) ys)
 
-  part-long : length part ≡ reading xs .z - 32
-  part-long = length-take-le (reading xs .z - 32) (drop (reading xs .c + 32) ys) (rw length-drop (omega (arith, guaranteed xs ok, e .long)))
+  part-long : length part ≡ settingsSize (reading xs)
+  part-long =
+      length-take-le (settingsSize (reading xs)) (drop (settingsAt (reading xs)) ys)
+      (rw length-drop (omega (arith, guaranteed xs ok, e .long)))
 
-  part-byte : (j : ℕ) → j < reading xs .z - 32 → getD part j 0 ≡ getD ys (reading xs .c + 32 + j) 0
-  part-byte j h = getD-take (reading xs .z - 32) (drop (reading xs .c + 32) ys) j 0 h ∙ getD-drop (reading xs .c + 32) ys j 0
+  part-byte : (j : ℕ) → j < settingsSize (reading xs) → getD part j 0 ≡ getD ys (settingsAt (reading xs) + j) 0
+  part-byte j h =
+      getD-take (settingsSize (reading xs)) (drop (settingsAt (reading xs)) ys) j 0 h
+      ∙ getD-drop (settingsAt (reading xs)) ys j 0
 
   part-bytes : Bytes part
   unfolding Bytes
   part-bytes k =
-      elim (decLt k (reading xs .z - 32)) [
-        | yes h ↦ rw (part-byte k h) (by (reading xs .c + 32 + k))
+      elim (decLt k (settingsSize (reading xs))) [
+        | yes h ↦ rw (part-byte k h) (by (settingsAt (reading xs) + k))
         | no h ↦
             let past : length part ≤ k = omega (arith, part-long) in
             rw (List·getD-eq-default part 0 past) (omega arith)
@@ -115,11 +120,11 @@ module _ (xs ys : List ℕ) (bx : Bytes xs) (by : Bytes ys) (ok : reading xs .nu
     after : Fits ms s
     after = fits-moved xs s base bx fit (e .legal)
 
-    outside : (k : ℕ) → (k < reading xs .c + 32) ⊎ (reading xs .c + reading xs .z ≤ k) → getD (setImage ms s) k 0 ≡ getD ys k 0
+    outside : (k : ℕ) → OutsideSettings (reading xs) k → getD (setImage ms s) k 0 ≡ getD ys k 0
     outside k out = kept-outside ms s after k (rw reads out) ∙ sym (e .same k out)
 
-    inside : (j : ℕ) → j < reading xs .z - 32
-        → getD (setImage ms s) (reading xs .c + 32 + j) 0 ≡ getD ys (reading xs .c + 32 + j) 0
+    inside : (j : ℕ) → j < settingsSize (reading xs)
+        → getD (setImage ms s) (settingsAt (reading xs) + j) 0 ≡ getD ys (settingsAt (reading xs) + j) 0
     unfolding bodyAt
     inside j h =
         let n = whole-count (reading xs .identity) part image revision extended in
@@ -129,7 +134,7 @@ module _ (xs ys : List ℕ) (bx : Bytes xs) (by : Bytes ys) (ok : reading xs .nu
         set-byte ms s after 0 j (omega arith) (omega arith) in
         let from : bodyAt s 0 + j ≡ 24 + j = omega arith in
         let region : reading ms .c ≡ reading xs .c = ap (λ (r : Reading). r .c) reads in
-        let to : reading ms .c + offset s 0 + j ≡ reading xs .c + 32 + j = omega arith in
+        let to : reading ms .c + offset s 0 + j ≡ settingsAt (reading xs) + j = omega arith in
         rw to at set ∙ rw from (whole-byte (reading xs .identity) part image revision extended j) ∙ part-byte j h
 
     one-sheet : Makes xs ys base s (all-to-1 (reading xs .z)) 1
@@ -139,14 +144,14 @@ module _ (xs ys : List ℕ) (bx : Bytes xs) (by : Bytes ys) (ok : reading xs .nu
       where
         byte : (k : ℕ) → getD (setImage ms s) k 0 ≡ getD ys k 0
         byte k =
-            elim (decLt k (reading xs .c + 32)) [
+            elim (decLt k (settingsAt (reading xs))) [
               | yes low ↦ outside k (inl low)
               | no low ↦
                   elim (decLt k (reading xs .c + reading xs .z)) [
                     | no high ↦ outside k (inr (omega arith))
                     | yes high ↦
-                        let j = k - (reading xs .c + 32) in
-                        let at : reading xs .c + 32 + j ≡ k = omega arith in
+                        let j = k - (settingsAt (reading xs)) in
+                        let at : settingsAt (reading xs) + j ≡ k = omega arith in
                         rw at at (inside j (omega arith))
                   ]
             ]
@@ -174,8 +179,8 @@ module _ (xs ys : List ℕ) (bx : Bytes xs) (by : Bytes ys) (ok : reading xs .nu
         (set-empty ms empty (fits-moved xs empty base bx fitting (e .legal)) (bare-count (reading xs .identity) [] image revision extended)
         ∙ ext-getD 0 ms ys (sym long) (λ k h. sym (e .same k (either k))))
       where
-        either : (k : ℕ) → (k < reading xs .c + 32) ⊎ (reading xs .c + reading xs .z ≤ k)
-        either k = elim (decLt k (reading xs .c + 32)) [ yes h ↦ inl h | no h ↦ inr (omega arith) ]
+        either : (k : ℕ) → OutsideSettings (reading xs) k
+        either k = elim (decLt k (settingsAt (reading xs))) [ yes h ↦ inl h | no h ↦ inr (omega arith) ]
 
   -- what is explained can be made
   pub explains-made : (s : List ℕ) × (o : List ℕ) × Makes xs ys base s o 1

@@ -16,13 +16,16 @@ use Rattle.words.specs.Put.{digit}
 use Rattle.words.specs.Number.{number, zeros}
 use Rattle.header.specs.Base.{legalBase}
 use Rattle.answers.specs.declared.Reading.{Reading}
-use Rattle.reading_rules.specs.Reading.{reading}
+use Rattle.reading_rules.specs.Reading.{Read}
 use Rattle.reading_rules.specs.Small.{small, settingBytes, small-reads}
+use Rattle.reading_rules.specs.Damaged.{damaged, damaged-refused}
 use Rattle.answers.specs.declared.Moved.{Moved}
 use Rattle.sheet_bodies.specs.Small.{sample}
 use Rattle.release.specs.Release.{releasing, releasedImage}
 use Rattle.release_laws.specs.Small.{two, small-release, small-released}
 use Rattle.demands.specs.Made.{Made, start, then}
+use Rattle.demands.specs.Exactly.{ReadFails}
+use Rattle.demands.specs.ExactlyHolds.{read-exactly}
 use Rattle.audit.specs.Audit.{shippedBase}
 use Rattle.audit.specs.Small.{shipped}
 
@@ -44,7 +47,7 @@ pub maker-bytes : Bytes maker
 unfolding small number zeros digit
 maker-bytes = bytes-so maker refl
 
-pub maker-reads : reading maker .number ≡ 0
+pub maker-reads : Read maker
 maker-reads = ap (λ (r : Reading). r .number) small-reads
 
 -- a sheet, a base, a list and an owner with which it can be released
@@ -81,3 +84,9 @@ shipped-long = refl
 pub shipped-legal : Holds (legalBase (length maker) (shippedBase maker shipped))
 unfolding small number zeros digit le
 shipped-legal = rw small-reads (refl, omega arith)
+
+-- a rule that is the first that isn't passed
+pub damaged-fails : ReadFails damaged 22 0
+damaged-fails =
+    let names : (_≡_ {A = ℕ} 22 0 → ⊥) → ReadFails damaged 22 0 = rw damaged-refused at (read-exactly damaged .refused) in
+    names (λ z. omega arith)

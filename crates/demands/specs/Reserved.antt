@@ -1,6 +1,6 @@
 -- Document 02, #104, above the call that places an entry: no call accepts an image that has an entry with wrong reserved bits, and where
 -- the reading finds such an entry every call refuses with 22, names that entry and changes nothing. `Damaged` in
--- `image` is an image of which that is so.
+-- `reading_rules` has an image of which that is so.
 -- Assumes nothing.
 use Prim.Native.Nat.{ℕ, _+_, _*_, _<_}
 use mathlib.Core.List.{List}
@@ -16,6 +16,8 @@ use Rattle.release.specs.Release.{Releases}
 use Rattle.setting.specs.Setting.{NumberOf}
 use Rattle.answers.specs.declared.Audited.{Audited}
 use Rattle.audit.specs.Audit.{refusedAudit, Audits, AuditsBytes}
+use Rattle.answers.specs.declared.Listed.{Listed}
+use Rattle.contents.specs.Listing.{refusedList, Lists}
 
 -- the reserved bits of every entry are right
 abbrev pub Unreserved : List ℕ → Type 0
@@ -31,6 +33,7 @@ Accepts-unreserved =
     × ((xs : List ℕ) (offset size k : ℕ) → NumberOf xs offset size k → k ≡ 0 → Unreserved xs)
     × ((xs ys places : List ℕ) (a : Audited) (l : List ℕ) → Audits xs ys places a l → a .number ≡ 0 → Unreserved xs)
     × ((xs ys bytes : List ℕ) (a : Audited) (l : List ℕ) → AuditsBytes xs ys bytes a l → a .number ≡ 0 → Unreserved xs)
+    × ((xs bytes : List ℕ) (a : Listed) (l : List ℕ) → Lists xs bytes a l → a .number ≡ 0 → Unreserved xs)
 
 -- ---- every call carries the reading's 22 with the entry's index, the audit the vendor's
 
@@ -42,3 +45,4 @@ Refuses-reserved =
     × ((offset size k : ℕ) → NumberOf xs offset size k → k ≡ 22)
     × ((ys places : List ℕ) (a : Audited) (l : List ℕ) → Audits xs ys places a l → (a ≡ refusedAudit 22 i) × (l ≡ places))
     × ((ys bytes : List ℕ) (a : Audited) (l : List ℕ) → AuditsBytes xs ys bytes a l → (a ≡ refusedAudit 22 i) × (l ≡ bytes))
+    × ((bytes : List ℕ) (a : Listed) (l : List ℕ) → Lists xs bytes a l → (a ≡ refusedList 22 i) × (l ≡ bytes))

@@ -9,7 +9,7 @@ use Rattle.words.specs.Le.{le}
 use Rattle.table.specs.EntryLaws.{spot-of}
 use Rattle.table.specs.Passes.{place}
 use Rattle.answers.specs.declared.Reading.{Reading}
-use Rattle.reading_rules.specs.Reading.{entriesAt, reading}
+use Rattle.reading_rules.specs.Reading.{entriesAt, reading, Read}
 use Rattle.reading_rules.specs.Guarantee.{guaranteed}
 use Rattle.answers.specs.declared.Moved.{Moved}
 use Rattle.move_answer.specs.MoveAnswer.{refusedMove}
@@ -19,11 +19,15 @@ use Rattle.setting.specs.SettingLaws.{setting-unread, setting-passed}
 use Rattle.answers.specs.declared.Audited.{Audited}
 use Rattle.audit.specs.Audit.{refusedAudit, auditing}
 use Rattle.audit.specs.AuditLaws.{audit-unread, audit-accepted, list-kept, bytes-kept}
+use Rattle.answers.specs.declared.Listed.{Listed}
+use Rattle.contents.specs.Listing.{refusedList, contents}
+use Rattle.contents.specs.ListingLaws.{list-unread, list-accepted}
+use Rattle.contents.specs.Theorems.{contents-kept}
 use Rattle.demands.specs.Reserved.{Accepts-unreserved, Refuses-reserved, Unreserved}
 
 -- ---- they hold
 
-unreserved : (xs : List ℕ) → reading xs .number ≡ 0 → Unreserved xs
+unreserved : (xs : List ℕ) → Read xs → Unreserved xs
 unfolding place
 unreserved xs ok i h =
     let r = reading xs in
@@ -39,6 +43,7 @@ accepts-unreserved = (
       unreserved xs (audit-accepted xs ys (length places) (sym (ap (λ (q : Audited). q .number) (is .0)) ∙ ok) .read)),
   (λ xs ys bytes a l is ok.
       unreserved xs (audit-accepted xs ys (length bytes / 4) (sym (ap (λ (q : Audited). q .number) (is .0)) ∙ ok) .read)),
+  (λ xs bytes a l is ok. unreserved xs (list-accepted xs (length bytes) (sym (ap (λ (q : Listed). q .number) (is .0)) ∙ ok) .0)),
 )
 
 pub refuses-reserved : Refuses-reserved
@@ -48,9 +53,10 @@ refuses-reserved xs i e = (
   (λ offset size k is. is ∙ setting-unread xs offset size unread .0 ∙ ap (λ (r : Reading). r .number) e),
   (λ ys places a l is. let n = of ys (length places) in (is .0 ∙ n, is .1 ∙ list-kept xs ys places (none ys (length places)))),
   (λ ys bytes a l is. let n = of ys (length bytes / 4) in (is .0 ∙ n, is .1 ∙ bytes-kept xs ys bytes (none ys (length bytes / 4)))),
+  (λ bytes a l is. let n = contained (length bytes) in (is .0 ∙ n, is .1 ∙ contents-kept xs bytes (unlisted (length bytes)))),
 )
   where
-    unread : reading xs .number ≡ 0 → ⊥
+    unread : Read xs → ⊥
     unread z = let k : _≡_ {A = ℕ} 22 0 = sym (ap (λ (r : Reading). r .number) e) ∙ z in omega arith
 
     released : (s : List ℕ) (base : ℕ) (o : List ℕ) (owner : ℕ) → releasing xs s base o owner ≡ refusedMove 22 i
@@ -65,3 +71,9 @@ refuses-reserved xs i e = (
 
     none : (ys : List ℕ) (room : ℕ) → auditing xs ys room .number ≡ 0 → ⊥
     none ys room z = let k : _≡_ {A = ℕ} 22 0 = sym (ap (λ (a : Audited). a .number) (of ys room)) ∙ z in omega arith
+
+    contained : (room : ℕ) → contents xs room ≡ refusedList 22 i
+    contained room = rw e at (list-unread xs room unread)
+
+    unlisted : (room : ℕ) → contents xs room .number ≡ 0 → ⊥
+    unlisted room z = let k : _≡_ {A = ℕ} 22 0 = sym (ap (λ (a : Listed). a .number) (contained room)) ∙ z in omega arith

@@ -23,7 +23,7 @@ use Rattle.inside_judge.specs.RulesLaws.{patches-count, patches-words, patches-
 use Rattle.move_modules.specs.Relocate.{shift, Movable}
 use Rattle.move_modules.specs.MovableLaws.{movable}
 use Rattle.answers.specs.declared.Reading.{Reading}
-use Rattle.reading_rules.specs.Reading.{entriesAt, fileAt, reading}
+use Rattle.reading_rules.specs.Reading.{entriesAt, fileAt, reading, Read}
 use Rattle.reading_rules.specs.Guarantee.{Guaranteed, guaranteed}
 use Rattle.reading_rules.specs.Words.{met, wordsOf}
 use Rattle.reading_rules.specs.WordsLaws.{widths, met-apart}
@@ -129,6 +129,6 @@ module _ (xs : List ℕ) (r : Reading) (g : Guaranteed xs r) where
       }
 
 -- images that agree but for words and settings, and read alike, have the same words
-pub same-words : (a b : List ℕ) → reading a .number ≡ 0 → AlikeBut a b (reading a) → reading b ≡ reading a
+pub same-words : (a b : List ℕ) → Read a → AlikeBut a b (reading a) → reading b ≡ reading a
     → met b (reading b) ≡ met a (reading a)
 same-words a b ok but same = ap (λ (r : Reading). met b r) same ∙ sym (words-but a b (reading a) (guaranteed a ok) but)

@@ -1,6 +1,12 @@
 // The library as C calls it. Each answer is written in a lent buffer; the header is include/pajurenda.h.
 ghost use Rattle.pajurenda.specs.Promises.{ReadCall, ReleaseCall, SheetCall, SettingCall, AuditCall, ContentsCall, HandoffCall, HandoffsCall};
 
+// How many bytes the answer on a sheet has.
+const SHEET_ANSWER: usize = 40;
+
+// And that on what an image holds.
+const CONTENTS_ANSWER: usize = 40;
+
 // Reads an image.
 #[no_mangle]
 pub extern "C" fn pajurenda_read(image: &[u8], answer: &mut [u8]) -> u32
@@ -39,7 +45,7 @@ pub extern "C" fn pajurenda_release(
 pub extern "C" fn pajurenda_sheet(sheet: &[u8], answer: &mut [u8]) -> u32
     ensures { λ r. ⌜ SheetCall (now (sheet .entry)) (now (answer .entry)) r (now (answer .exit)) ⌝ }
 {
-    if answer.len() < 40 {
+    if answer.len() < SHEET_ANSWER {
         return 100;
     }
     let r = sheet::read_sheet(sheet);
@@ -83,7 +89,7 @@ pub extern "C" fn pajurenda_audit(
 pub extern "C" fn pajurenda_contents(image: &[u8], places: &mut [u8], answer: &mut [u8]) -> u32
     ensures { λ r. ⌜ ContentsCall (now (image .entry)) (now (places .entry)) (now (answer .entry)) r (now (places .exit)) (now (answer .exit)) ⌝ }
 {
-    if answer.len() < 40 {
+    if answer.len() < CONTENTS_ANSWER {
         return 100;
     }
     let r = contents::list_contents(image, places);

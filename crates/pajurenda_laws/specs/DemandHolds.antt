@@ -1,14 +1,15 @@
--- Demand 1 holds of the C calls.
+-- The demands hold of the C calls.
 -- Assumes nothing.
-use Prim.Native.Nat.{ℕ, _*_, _/_}
+use Prim.Native.Nat.{ℕ, _*_, _/_, _≤_}
 use mathlib.Core.List.{List}
 use mathlib.Core.Logic.{_⊎_, inl, inr}
-use mathlib.Core.Path.{_≡_, refl, _∙_}
+use mathlib.Core.Path.{_≡_, refl, sym, _∙_}
 use native.Mathlib.Omega.{arith}
 use native.Mathlib.Decide.{decLt}
 use lib.ListN.{length}
 use Rattle.facts.specs.Rules.{run}
 use Rattle.facts.specs.RulesLaws.{by-test}
+use Rattle.facts.specs.Exactly.{Fails, Exact}
 use Rattle.reading_rules.specs.Reading.{reading}
 use Rattle.reading_rules.specs.Numbers.{Numbered, None}
 use Rattle.reading_rules.specs.NumbersLaws.{numbered}
@@ -28,10 +29,15 @@ use Rattle.reading_rules.specs.Numbers.{OwnAudit}
 use Rattle.contents.specs.Listing.{contents, contentsIn}
 use Rattle.contents.specs.Theorems.{listing-numbered, contents-kept}
 use Rattle.reading_rules.specs.Numbers.{OwnList}
+use Rattle.handoff_step.specs.Step.{stepRules, stepped}
+use Rattle.demands.specs.DemandsHold.{demand-2, demand-3}
+use Rattle.demands.specs.Exactly.{ReadFails, ReleaseFails, LookupFails, AuditFails, ListFails, sheetRules}
+use Rattle.demands.specs.ExactlyHolds.{read-exactly, release-exactly, lookup-exactly, audit-exactly, list-exactly, sheet-exactly, step-exactly}
+use Rattle.c_answers.specs.Steps.{stepFields}
 use Rattle.c_answers.specs.Answers.{ifRoom, result, answered, readFields, moveFields, sheetFields, settingFields, auditFields, listFields}
 use Rattle.setting.specs.Finding.{finding}
 use Rattle.c_answers.specs.AnswerLaws.{roomy, short}
-use Rattle.pajurenda_laws.specs.Demand.{Demand1-C, NoRoom}
+use Rattle.pajurenda_laws.specs.Demand.{Demand1-C, Demand2-C, Demand3-C, Exactly-C, NoRoom}
 
 -- ---- it holds
 
@@ -97,3 +103,60 @@ demand-1-C = (
     kept A 5 (contents xs (length bytes) .number) r (contentsIn xs bytes) bytes l (is .0) (is .1 .0) (contents-kept xs bytes),
   )),
 )
+
+pub exactly-C : Exactly-C
+exactly-C = (
+  (λ xs A r a is.
+      by-room A (readFields (reading xs)) 12 (reading xs .number) r a refl (is .0) (is .1)
+      (λ k. Exact (ReadFails xs) k (reading xs .index)) (read-exactly xs)),
+  (λ xs s base o owner A r ys a is.
+      by-room A (moveFields (releasing xs s base o owner)) 3 (releasing xs s base o owner .number) r a refl (is .0) (is .1 .1)
+      (λ k. Exact (ReleaseFails xs s base o owner) k (releasing xs s base o owner .index)) (release-exactly xs s base o owner)),
+  (λ s A r a is.
+      by-room A (sheetFields (sheetReading s)) 5 (sheetReading s .number) r a refl (is .0) (is .1)
+      (λ k. Exact (Fails (sheetRules s)) k 0) (sheet-exactly s)),
+  (λ xs offset size A r a is.
+      by-room A (settingFields (finding xs offset size)) 3 (finding xs offset size .number) r a refl (is .0) (is .1)
+      (λ k. Exact (LookupFails xs offset size) k 0) (rw (finding-number xs offset size) (lookup-exactly xs offset size))),
+  (λ xs ys bytes A r l a is.
+      by-room A (auditFields (auditing xs ys (length bytes / 4))) 7 (auditing xs ys (length bytes / 4) .number) r a refl (is .0) (is .1 .1)
+      (λ k. Exact (AuditFails xs ys (length bytes / 4)) k (auditing xs ys (length bytes / 4) .index))
+      (audit-exactly xs ys (length bytes / 4))),
+  (λ xs bytes A r l a is.
+      by-room A (listFields (contents xs (length bytes))) 5 (contents xs (length bytes) .number) r a refl (is .0) (is .1 .1)
+      (λ k. Exact (ListFails xs (length bytes)) k (contents xs (length bytes) .index)) (list-exactly xs (length bytes))),
+  (λ xs at A r a is.
+      by-room A (stepFields (stepped xs at)) 10 (stepped xs at .number) r a refl (is .0) (is .1)
+      (λ k. Exact (Fails (stepRules xs at)) k 0) (step-exactly xs at)),
+)
+
+-- a result of 0 comes with room
+room-so : (k : ℕ) (A : List ℕ) (number : ℕ) → result k A number ≡ 0 → 8 * k ≤ length A
+room-so k A number e =
+    elim (decLt (length A) (8 * k)) [ yes none ↦ absurd (omega (arith, short k A number 100 none)) | no room ↦ omega arith ]
+
+pub demand-2-C : Demand2-C
+demand-2-C xs s base o owner A r ys a bx bs is zero =
+    let m = releasing xs s base o owner in
+    let room = room-so 3 A (m .number) (sym (is .0) ∙ zero) in
+    let ok : m .number ≡ 0 = sym (is .0 ∙ roomy 3 A (m .number) 100 room) ∙ zero in
+    let image : ys ≡ releasedImage xs s base o owner = is .1 .0 ∙ roomy 3 A (releasedImage xs s base o owner) xs room in
+    (m, is .1 .1, demand-2 xs s base o owner m ys bx bs (refl, image) ok)
+
+pub demand-3-C : Demand3-C
+demand-3-C xs ys bytes A r l a bx ok long legal is =
+    let q = auditing xs ys (length bytes / 4) in
+    elim (decLt (length A) (8 * 7)) [
+      | yes none ↦ inl (
+        (is .0 ∙ short 7 A (q .number) 100 none, is .1 .1 ∙ short 7 A _ A none),
+        is .1 .0 ∙ short 7 A (listedBytes xs ys bytes) bytes none,
+      )
+      | no room ↦
+          let list : l ≡ listedBytes xs ys bytes = is .1 .0 ∙ roomy 7 A (listedBytes xs ys bytes) bytes (omega arith) in
+          inr (
+            q,
+            is .0 ∙ roomy 7 A (q .number) 100 (omega arith),
+            is .1 .1,
+            demand-3 .1 xs ys bytes q l bx ok long legal (refl, list),
+          )
+    ]

@@ -22,7 +22,7 @@ use Rattle.header.specs.HeaderLaws.{extended-small}
 use Rattle.header.specs.Base.{legalBase}
 use Rattle.answers.specs.declared.Identity.{Identity}
 use Rattle.answers.specs.declared.Reading.{Reading}
-use Rattle.reading_rules.specs.Reading.{identityAt, reading}
+use Rattle.reading_rules.specs.Reading.{identityAt, reading, Read}
 use Rattle.reading_rules.specs.Guarantee.{guaranteed}
 use Rattle.reading_rules.specs.Numbers.{Numbered}
 use Rattle.reading_rules.specs.NumbersLaws.{numbered, after-every, index-small, refused-is}
@@ -39,7 +39,7 @@ use Rattle.release.specs.Release.{releasing}
 use Rattle.release_judge.specs.Judged.{nameRules, releaseRules}
 use Rattle.release_laws.specs.Theorems.{release-numbered}
 use Rattle.reading_rules.specs.Numbers.{OwnRelease}
-use Rattle.audit_count.specs.Differences.{agrees, differences, setting, entry, settings, strays, flips, bits, entries}
+use Rattle.audit_count.specs.Differences.{differences, setting, settings, strays, flips, bits}
 use Rattle.audit_count.specs.DifferenceLaws.{counts, few}
 use Rattle.audit_count.specs.FlipLaws.{flips-most}
 use Rattle.answers.specs.declared.Audited.{Audited}
@@ -79,7 +79,7 @@ number-small xs own number index most h =
 
 -- ---- a reading
 
-read-refused : (xs : List ℕ) → Bytes xs → (reading xs .number ≡ 0 → ⊥) → Small (readFields (reading xs))
+read-refused : (xs : List ℕ) → Bytes xs → (Read xs → ⊥) → Small (readFields (reading xs))
 read-refused xs b h =
     let small = number-small xs _ _ _ (λ k o. absurd o) (numbered xs) in
     let at = index-small xs _ _ _ b (numbered xs) in
@@ -103,7 +103,7 @@ read-refused xs b h =
       ),
     )
 
-read-accepted : (xs : List ℕ) → Bytes xs → reading xs .number ≡ 0 → Small (readFields (reading xs))
+read-accepted : (xs : List ℕ) → Bytes xs → Read xs → Small (readFields (reading xs))
 unfolding identityAt
 read-accepted xs b ok =
     let g = guaranteed xs ok in
@@ -266,22 +266,6 @@ audit-small xs ys room b =
     one : (e : Bool) → cond e 1 0 < 2 ^ 64
     one true = omega arith
     one false = omega arith
-
--- the entries of its list
-pub entries-small : (r : Reading) (ref ys : List ℕ) (k n : ℕ) → k + n ≤ 16777216 → (i : ℕ)
-    → getD (entries r (differences ref ys k n)) i 0 < 2 ^ 32
-unfolding differences entries entry
-entries-small r ref ys k zero h i = omega arith
-entries-small r ref ys k (suc n) h i =
-    let rest = entries-small r ref ys (suc k) n (omega arith) in
-    by-test (λ (l : List ℕ). getD (entries r l) i 0 < 2 ^ 32) (agrees ref ys k) (differences ref ys (suc k) n)
-    (k ∷ differences ref ys (suc k) n)
-    (λ e. rest i) (λ e. first i rest)
-  where
-    first : (j : ℕ) → ((j : ℕ) → getD (entries r (differences ref ys (suc k) n)) j 0 < 2 ^ 32)
-        → getD (entries r (k ∷ differences ref ys (suc k) n)) j 0 < 2 ^ 32
-    first zero rest = by-test (λ (v : ℕ). v < 2 ^ 32) (setting r k) k (k + 16777216) (λ s. omega arith) (λ s. omega arith)
-    first (suc j) rest = rest j
 
 -- ---- what an image holds
 

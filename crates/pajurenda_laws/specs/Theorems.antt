@@ -1,6 +1,6 @@
 -- What the promises of the C calls say of the buffers, byte by byte and field by field, and that each admits one outcome only.
 -- Assumes nothing.
-use Prim.Native.Nat.{ℕ, _+_, _*_, _/_, _≤_, _<_}
+use Prim.Native.Nat.{ℕ, _+_, _*_, _≤_, _<_}
 use mathlib.Core.List.{List}
 use mathlib.Core.Path.{_≡_, sym, _∙_}
 use native.Mathlib.Omega.{arith}
@@ -9,17 +9,10 @@ use lib.ListN.{length, getD}
 use Rattle.words.specs.Le.{le}
 use Rattle.words.specs.Put.{putAll}
 use Rattle.words.specs.PutLaws.{putAll-above, le-putAll}
-use Rattle.reading_rules.specs.Reading.{reading}
-use Rattle.answers.specs.AfterLaws.{changed-so}
-use Rattle.reading_rules.specs.Guarantee.{guaranteed}
-use Rattle.audit_count.specs.Differences.{entries}
-use Rattle.audit_count.specs.DifferenceLaws.{length-entries}
-use Rattle.audit.specs.Audit.{reference, differing, auditing, listedBytes}
-use Rattle.audit.specs.AuditLaws.{Accepted, audit-accepted, fits}
 use Rattle.c_answers.specs.Answers.{answered}
 use Rattle.c_answers.specs.AnswerLaws.{roomy, short}
 use Rattle.pajurenda.specs.Promises.{ReadCall, ReleaseCall, SheetCall, SettingCall, AuditCall, ContentsCall, HandoffCall, HandoffsCall}
-use Rattle.pajurenda_laws.specs.FieldLaws.{Small, small-at, entries-small}
+use Rattle.pajurenda_laws.specs.FieldLaws.{Small, small-at}
 use Rattle.pajurenda.specs.Promises.{StationCall, StationResetCall}
 
 -- ---- the answer's buffer
@@ -40,32 +33,6 @@ module _ (A fields : List ℕ) where
   -- without room every byte is
   pub answer-short : length A < 8 * length fields → answered A fields ≡ A
   answer-short h = short (length fields) A (putAll 8 A 0 fields) A h
-
--- ---- the audit's list
-
-module _ (xs ys bytes : List ℕ) where
-  -- place i of an accepted audit holds the i-th entry, in four bytes
-  pub entry-is : auditing xs ys (length bytes / 4) .number ≡ 0 → (i : ℕ) → i < length (differing xs ys)
-      → le 4 (listedBytes xs ys bytes) (4 * i) ≡ getD (entries (reading xs) (differing xs ys)) i 0
-  unfolding listedBytes differing
-  entry-is ok i h =
-      let es = entries (reading xs) (differing xs ys) in
-      let n = length-entries (reading xs) (differing xs ys) in
-      let room = fits xs ys (length bytes / 4) ok in
-      let z : 0 + 4 * i ≡ 4 * i = omega arith in
-      rw (changed-so (auditing xs ys (length bytes / 4) .number) (putAll 4 bytes 0 es) bytes ok)
-      (rw z at (le-putAll 4 bytes 0 es i (omega arith) (omega arith))
-      ∙ mod-eq-of-lt (entries-small (reading xs) (reference xs ys) ys 0 (length xs)
-      (omega (arith, guaranteed xs (audit-accepted xs ys (length bytes / 4) ok .read))) i))
-
-  -- bytes after the last entry are kept, those after the last whole place among them
-  pub entry-kept : (i : ℕ) → 4 * length (differing xs ys) ≤ i → auditing xs ys (length bytes / 4) .number ≡ 0
-      → getD (listedBytes xs ys bytes) i 0 ≡ getD bytes i 0
-  unfolding listedBytes
-  entry-kept i h ok =
-      let es = entries (reading xs) (differing xs ys) in
-      let n = length-entries (reading xs) (differing xs ys) in
-      rw (changed-so (auditing xs ys (length bytes / 4) .number) (putAll 4 bytes 0 es) bytes ok) (putAll-above 4 bytes 0 es i (omega arith))
 
 -- ---- any two outcomes that a promise admits are the same
 

@@ -15,7 +15,7 @@ use Rattle.words.specs.LeLaws.{le-cong}
 use Rattle.header.specs.Base.{legalBase}
 use Rattle.inside_walk.specs.Whole.{walked}
 use Rattle.answers.specs.declared.Reading.{Reading}
-use Rattle.reading_rules.specs.Reading.{accepted, rebased, fileAt, reading}
+use Rattle.reading_rules.specs.Reading.{accepted, rebased, fileAt, reading, Read}
 use Rattle.reading_rules.specs.Stages.{fromModules, fromEntries, fromRegion, fromPatch, fromTable, fromComponent, fromHeader, fromSection, fromFile, fromExtension, fromVolume, stages}
 use Rattle.reading_rules.specs.Guarantee.{Guaranteed, guaranteed, all-passed}
 use Rattle.reading_rules.specs.Frame.{AlikeEntries, AlikeRegion, AlikePatch, AlikeTable, AlikeComponent, AlikeHeader, AlikeSection, AlikeFile, AlikeExtension, AlikeVolume, AlikeImage, frame}
@@ -145,7 +145,7 @@ module _ (a b : List ℕ) (r : Reading) (least : ℕ) (same : Framed a b r least
       )
 
 -- two images that agree so have one reading but for the base, which is the other's own base word
-pub framed : (a b : List ℕ) (least : ℕ) → reading a .number ≡ 0 → Framed a b (reading a) least
+pub framed : (a b : List ℕ) (least : ℕ) → Read a → Framed a b (reading a) least
     → Holds (legalBase (length b) (le 4 b (reading a .H + 28))) → reading b ≡ rebased (reading a) (le 4 b (reading a .H + 28))
 framed a b least e same legal =
     let r = reading a in
@@ -153,13 +153,13 @@ framed a b least e same legal =
     let ours : Holds (legalBase (length a) (le 4 a (r .H + 28))) = rw (g .base-is) at (g .legal) in
     let both = passes (legalBase (length a) (le 4 a (r .H + 28))) ours ∙ sym (passes (legalBase (length b) (le 4 b (r .H + 28))) legal) in
     let f = frame a b (image a b r least same both (all-passed a e)) in
-    let number : reading b .number ≡ 0 = ap (λ (s : Reading). s .number) f ∙ e in
+    let number : Read b = ap (λ (s : Reading). s .number) f ∙ e in
     let at : reading b .H ≡ r .H = ap (λ (s : Reading). s .H) f in
     let base : reading b .base ≡ le 4 b (r .H + 28) = guaranteed b number .base-is ∙ ap (λ (H : ℕ). le 4 b (H + 28)) at in
     f ∙ ap (λ (w : ℕ). rebased r w) base
 
 -- an image that agrees with an accepted one there has the same reading but for the base, which is its own base word
-pub frame-below : (a b : List ℕ) → reading a .number ≡ 0 → AlikeBelow a b (reading a)
+pub frame-below : (a b : List ℕ) → Read a → AlikeBelow a b (reading a)
     → walked a (le 8 a 32) (fileAt (reading a)) ≡ walked b (le 8 b 32) (fileAt (reading a))
     → Holds (legalBase (length b) (le 4 b (reading a .H + 28))) → reading b ≡ rebased (reading a) (le 4 b (reading a .H + 28))
 frame-below a b e same modules legal =

@@ -1,4 +1,5 @@
 pub mod Reading
+pub mod Settings
 pub mod Stages
 pub mod Guarantee
 pub mod Frame
@@ -7,6 +8,7 @@ pub mod Words
 pub mod WordsLaws
 pub mod FrameBut
 pub mod Small
+pub mod SmallPE
 pub mod Damaged
 pub mod Numbers
 pub mod NumbersLaws

@@ -15,7 +15,7 @@ use Rattle.facts.specs.Rules.{Rules, run}
 use Rattle.facts.specs.RulesLaws.{Every, run-every}
 use Rattle.volume.specs.Volume.{lengthFits}
 use Rattle.answers.specs.declared.Reading.{Reading}
-use Rattle.reading_rules.specs.Reading.{refusal, accepted, p, n, rules, reading}
+use Rattle.reading_rules.specs.Reading.{refusal, accepted, p, n, rules, reading, Read}
 use Rattle.answers.specs.After.{afterReading}
 use Rattle.answers.specs.AfterLaws.{after-accepted, after-refused}
 use Rattle.reading_rules.specs.Numbers.{None, Numbered, OfEntry}
@@ -93,7 +93,7 @@ module _ (xs : List ℕ) where
       )
 
   -- a refused reading has its number and index, and zero in every other field
-  pub refused-is : (reading xs .number ≡ 0 → ⊥) → reading xs ≡ refusal (reading xs .number) (reading xs .index)
+  pub refused-is : (Read xs → ⊥) → reading xs ≡ refusal (reading xs .number) (reading xs .index)
   unfolding reading rules accepted
   refused-is =
       run-every refusal (λ (r : Reading). (r .number ≡ 0 → ⊥) → r ≡ refusal (r .number) (r .index)) (rules xs) (
@@ -224,7 +224,7 @@ module _ (xs : List ℕ) where
 
 -- a call that reads xs first: what holds of the reading's refusals, and of all that its own rules can give, holds of its answer
 pub after-every : {A : Type 0} (refuse : ℕ → ℕ → A) (P : A → Type 0) (xs : List ℕ) (t : Rules A)
-    → ((reading xs .number ≡ 0 → ⊥) → P (refuse (reading xs .number) (reading xs .index))) → (reading xs .number ≡ 0 → Every refuse P t)
+    → ((Read xs → ⊥) → P (refuse (reading xs .number) (reading xs .index))) → (Read xs → Every refuse P t)
     → P (afterReading refuse (reading xs) t)
 after-every refuse P xs t unread own =
     elim (ℕ-discrete (reading xs .number) 0) [

@@ -177,6 +177,10 @@ module _ (xs : List ℕ) where
   unfoldable pub reading : Reading
   reading = run refusal rules
 
+-- the image reads: every rule is passed
+abbrev pub Read : List ℕ → Type 0
+Read xs = reading xs .number ≡ 0
+
 -- the promise of `read`
 abbrev pub Reads : List ℕ → Reading → Type 0
 Reads xs r = r ≡ reading xs

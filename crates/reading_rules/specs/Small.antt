@@ -2,7 +2,7 @@
 -- file with a TE module that has an image base and a relocation word; and one of 368 bytes whose header can have the extended number. What
 -- is said of images in general is computed for them, so that nothing is said of no image.
 -- Assumes nothing.
-use Prim.Native.Nat.{ℕ, suc, _+_}
+use Prim.Native.Nat.{ℕ, suc, _+_, _-_, _^_}
 use mathlib.Core.List.{List, [], _∷_, _++_}
 use mathlib.Core.Path.{_≡_, refl}
 use lib.ListN.{length}
@@ -29,16 +29,16 @@ use Rattle.answers.specs.declared.Reading.{Reading}
 use Rattle.reading_rules.specs.Reading.{refusal, identityAt, accepted, rules, reading, f, p}
 
 -- bytes 0..71, the volume's header: its length, its mark, h, the word that makes the sum 0, and x
-abbrev volume : ℕ → ℕ → List ℕ
+abbrev pub volume : ℕ → ℕ → List ℕ
 volume long sum =
     zeros 32 ++ (number 8 long ++ (number 4 0x4856465F ++ (zeros 4 ++ (number 2 72 ++ (number 2 sum ++ (number 2 0 ++ zeros 18))))))
 
 -- bytes 72..99, the header file and its section: the byte that makes the sum 0, s, and the section's size and type
-abbrev file : ℕ → ℕ → ℕ → List ℕ
+abbrev pub file : ℕ → ℕ → ℕ → List ℕ
 file sum s section = guid ++ (number 1 sum ++ (zeros 3 ++ (number 3 s ++ (zeros 1 ++ (number 3 section ++ number 1 0x19)))))
 
 -- bytes 100..171, the header with L, its revision, revision 0x01020304, `TREAT-01`, the size, the base, the component, c and z
-abbrev header : ℕ → ℕ → ℕ → ℕ → ℕ → List ℕ
+abbrev pub header : ℕ → ℕ → ℕ → ℕ → ℕ → List ℕ
 header L kind size base c =
     number 4 0x48505346
     ++ (number 4 L
@@ -48,16 +48,17 @@ header L kind size base c =
     ++ (number 8 0x31302D5441455254
     ++ (number 4 size ++ (number 4 base ++ (zeros 2 ++ (number 2 0x1000 ++ (number 4 c ++ (number 4 48 ++ zeros 28)))))))))))
 
--- 16 bytes, the patch table: its revision, n, and an entry that counts 96 bytes back from the end; then 4 up to the next file
-abbrev table : List ℕ
-table = number 4 0x50505346 ++ (number 2 16 ++ (number 1 1 ++ (zeros 1 ++ (number 4 1 ++ (number 4 0xFFFFFFA0 ++ zeros 4)))))
+-- 16 bytes, the patch table: its revision, n, and an entry that counts so many bytes back from the end; then 4 up to the next file
+abbrev pub table : ℕ → List ℕ
+table back =
+    number 4 0x50505346 ++ (number 2 16 ++ (number 1 1 ++ (zeros 1 ++ (number 4 1 ++ (number 4 (2 ^ 32 - back) ++ zeros 4)))))
 
 -- 24 bytes, another file's header: the byte that makes the sum 0, its type and its size
-abbrev fileHead : ℕ → ℕ → ℕ → List ℕ
+abbrev pub fileHead : ℕ → ℕ → ℕ → List ℕ
 fileHead sum type size = zeros 16 ++ (number 1 sum ++ (zeros 1 ++ (number 1 type ++ (zeros 1 ++ (number 3 size ++ zeros 1)))))
 
 -- the raw file: 24 bytes of header; 32, the region's header with its marks; 16, the settings; 4, the patch word; 4 up to the next file
-abbrev region : ℕ → List ℕ → List ℕ
+abbrev pub region : ℕ → List ℕ → List ℕ
 region word part = fileHead 179 1 76 ++ (zeros 6 ++ (95 ∷ 84 ∷ (zeros 24 ++ (part ++ (number 4 word ++ zeros 4)))))
 
 -- the file of a TE module, none of whose bytes was cut: 24 bytes of header, 4 of section header; 40 of the module's own header, with its
@@ -80,7 +81,7 @@ moduleFile base =
 -- header revision 3: the table from 172 on, the region from 216 on, the module from 300 on
 unfoldable pub small : ℕ → ℕ → List ℕ → List ℕ
 small base word part =
-    volume 360 0x6F9B ++ (file 176 116 92 ++ (header 72 3 360 base 216 ++ (table ++ (region word part ++ moduleFile base))))
+    volume 360 0x6F9B ++ (file 176 116 92 ++ (header 72 3 360 base 216 ++ (table 96 ++ (region word part ++ moduleFile base))))
 
 -- the same with a header of this length, at most 80, and this revision, and with a number at H+76: all from the table on stands 8 bytes later
 unfoldable pub later : ℕ → ℕ → ℕ → List ℕ → List ℕ
@@ -88,7 +89,7 @@ later L kind extended part =
     volume 368 0x6F93
     ++ (file 168 124 100
     ++ (header L kind 368 0xFFF80000 224
-    ++ (zeros 4 ++ (number 2 extended ++ (zeros 2 ++ (table ++ (region 0xFFF80040 part ++ moduleFile 0xFFF80000)))))))
+    ++ (zeros 4 ++ (number 2 extended ++ (zeros 2 ++ (table 96 ++ (region 0xFFF80040 part ++ moduleFile 0xFFF80000)))))))
 
 -- its settings: zeros, and at 40 in the region these two bytes
 abbrev pub settingBytes : ℕ → ℕ → List ℕ

@@ -10,7 +10,7 @@ use Rattle.facts.specs.Rules.{run}
 use Rattle.facts.specs.RulesLaws.{passed, run-passed}
 use Rattle.header.specs.Base.{legalBase}
 use Rattle.answers.specs.declared.Reading.{Reading}
-use Rattle.reading_rules.specs.Reading.{reading}
+use Rattle.reading_rules.specs.Reading.{reading, Read}
 use Rattle.reading_rules.specs.Guarantee.{Guaranteed, guaranteed}
 use Rattle.answers.specs.AfterLaws.{after-accepted, after-refused, changed-so, kept-so}
 use Rattle.answers.specs.declared.Moved.{Moved}
@@ -53,11 +53,11 @@ module _ (xs s : List ℕ) (base : ℕ) (o : List ℕ) (owner : ℕ) where
   unfolding releasedImage
   release-kept h = kept-so (releasing xs s base o owner .number) (twoSteps xs s base) xs h
 
-  pub release-unread : (reading xs .number ≡ 0 → ⊥) → releasing xs s base o owner ≡ refusedMove (reading xs .number) (reading xs .index)
+  pub release-unread : (Read xs → ⊥) → releasing xs s base o owner ≡ refusedMove (reading xs .number) (reading xs .index)
   unfolding releasing
   release-unread h = after-refused refusedMove (reading xs) (releaseRules (reading xs) (length xs) s base o owner) h
 
-  pub release-judged : reading xs .number ≡ 0 → releasing xs s base o owner ≡ judged
+  pub release-judged : Read xs → releasing xs s base o owner ≡ judged
   unfolding releasing
   release-judged ok = after-accepted refusedMove (reading xs) (releaseRules (reading xs) (length xs) s base o owner) ok
 

@@ -14,7 +14,7 @@ use Rattle.header.specs.HeaderLaws.{extended-none}
 use Rattle.header.specs.Base.{legalBase}
 use Rattle.answers.specs.declared.Identity.{Identity}
 use Rattle.answers.specs.declared.Reading.{Reading}
-use Rattle.reading_rules.specs.Reading.{identityAt, reading}
+use Rattle.reading_rules.specs.Reading.{identityAt, reading, Read}
 use Rattle.reading_rules.specs.Guarantee.{guaranteed}
 use Rattle.answers.specs.declared.Moved.{Moved}
 use Rattle.move_answer.specs.MoveAnswer.{refusedMove, acceptedMove}
@@ -51,12 +51,12 @@ pub older-contents : (s : List ℕ) → Holds (olderContents s) → Holds (conte
 older-contents s h = (h .0, (h .1 .0, (h .1 .1 .0, h .1 .1 .1 .1)))
 
 -- an image below header revision 6 has no extended number
-pub below-six : (xs : List ℕ) → reading xs .number ≡ 0 → le 1 xs (reading xs .H + 11) < 6 → reading xs .identity .extended ≡ 0
+pub below-six : (xs : List ℕ) → Read xs → le 1 xs (reading xs .H + 11) < 6 → reading xs .identity .extended ≡ 0
 unfolding identityAt
 below-six xs ok below = ap (λ (i : Identity). i .extended) (guaranteed xs ok .identity-is) ∙ extended-none xs (reading xs .H) below
 
 -- an older sheet is answered as before where the image's extended number is 0
-pub older-as-before : (xs s : List ℕ) (base : ℕ) (o : List ℕ) (owner : ℕ) → reading xs .number ≡ 0 → Older s
+pub older-as-before : (xs s : List ℕ) (base : ℕ) (o : List ℕ) (owner : ℕ) → Read xs → Older s
     → reading xs .identity .extended ≡ 0
     → releasing xs s base o owner ≡ run refusedMove (olderRules (reading xs) (length xs) s base o owner)
 unfolding run releaseRules nameRules
@@ -71,7 +71,7 @@ older-as-before xs s base o owner ok old none =
     )
 
 -- and refused with 16, once it passes 15 and the list is good, where it is another
-pub older-refused : (xs s : List ℕ) (base : ℕ) (o : List ℕ) (owner : ℕ) → reading xs .number ≡ 0 → Older s → Holds (sheetFits s)
+pub older-refused : (xs s : List ℕ) (base : ℕ) (o : List ℕ) (owner : ℕ) → Read xs → Older s → Holds (sheetFits s)
     → Holds (ownersFit o owner (reading xs .z))
     → (reading xs .identity .extended ≡ 0 → ⊥)
     → releasing xs s base o owner ≡ refusedMove 16 0

@@ -16,7 +16,7 @@ use Rattle.words.specs.Number.{number, zeros}
 use Rattle.table.specs.Entry.{placeOf}
 use Rattle.table.specs.Passes.{place}
 use Rattle.answers.specs.declared.Reading.{Reading}
-use Rattle.reading_rules.specs.Reading.{reading}
+use Rattle.reading_rules.specs.Reading.{reading, Read}
 use Rattle.reading_rules.specs.Small.{small, later, settingBytes, small-reads, six-reads, five-reads}
 use Rattle.answers.specs.declared.Moved.{Moved}
 use Rattle.moves.specs.Moves.{difference, movedTo}
@@ -37,7 +37,7 @@ two = number 4 40 ++ (number 2 2 ++ (number 2 1 ++ (number 4 42 ++ (number 2 2 +
 abbrev maker : List ℕ
 maker = small 0xFFF80000 0xFFF80040 (settingBytes 0 1)
 
-read : reading maker .number ≡ 0
+read : Read maker
 read = ap (λ (r : Reading). r .number) small-reads
 
 judged : run refusedMove (releaseRules (reading maker) (length maker) sample 0x00100000 two 1) ≡ acceptedMove (reading maker) 0x00100000
@@ -73,7 +73,7 @@ six = later 80 6 0x0201 (settingBytes 0 1)
 abbrev five : ℕ → List ℕ
 five any = later 79 5 any (settingBytes 0 1)
 
-six-read : reading six .number ≡ 0
+six-read : Read six
 six-read = ap (λ (r : Reading). r .number) six-reads
 
 -- the sheet's own extended number is the image's
@@ -95,7 +95,7 @@ unfolding run releaseRules nameRules test allBelow le number digit bodyAt
 six-high = release-judged six (sampleFor 0x0001) 0xFFF80000 two 1 six-read ∙ rw six-reads
 
 -- at header revision 5 the older sheet is taken whatever stands at H+76, and one with a number is not
-five-read : (any : ℕ) → reading (five any) .number ≡ 0
+five-read : (any : ℕ) → Read (five any)
 five-read any = ap (λ (r : Reading). r .number) (five-reads any)
 
 pub five-older : (any : ℕ) → releasing (five any) (sampleFor 0) 0xFFF80000 two 1 .number ≡ 0

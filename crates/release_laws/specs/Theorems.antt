@@ -14,7 +14,7 @@ use Rattle.words.specs.LeLaws.{le-cong}
 use Rattle.header.specs.Base.{legalBase}
 use Rattle.answers.specs.declared.Reading.{Reading}
 use Rattle.reading_rules.specs.Words.{met}
-use Rattle.reading_rules.specs.Reading.{rebased, reading}
+use Rattle.reading_rules.specs.Reading.{rebased, reading, Read}
 use Rattle.reading_rules.specs.Guarantee.{guaranteed}
 use Rattle.reading_rules.specs.Numbers.{Numbered, OwnRelease}
 use Rattle.reading_rules.specs.NumbersLaws.{after-every, numbered-own, own-number, own-zero}
@@ -135,7 +135,7 @@ module _ (xs s : List ℕ) (base : ℕ) (o : List ℕ) (owner : ℕ) (ok : relea
         let g = guaranteed xs (released-fits .read) in
         let f = released-fits .sound .fields i h in
         let b = body-within s (r .z) (released-fits .sound) i h in
-        let read : reading ys .number ≡ 0 = ap (λ (q : Reading). q .number) released-reads ∙ released-fits .read in
+        let read : Read ys = ap (λ (q : Reading). q .number) released-reads ∙ released-fits .read in
         let inside : Holds (settingFits (offset s i) (size s i) (reading ys .z)) =
         rw released-reads (released-fits .sound .bodies .0 i h .0, f) in
         let room : r .c + offset s i + size s i ≤ length ys = rw length-released (omega (arith, g)) in
@@ -166,7 +166,7 @@ goes-on xs s t base next o p owner other bx bs ok takes =
     let ys = releasedImage xs s base o owner in
     let reads = released-reads xs s base o owner ok bx bs in
     let fits = takes .fits in
-    let read : reading ys .number ≡ 0 = ap (λ (r : Reading). r .number) reads ∙ fits .read in
+    let read : Read ys = ap (λ (r : Reading). r .number) reads ∙ fits .read in
     let z : reading ys .z ≡ reading xs .z = ap (λ (r : Reading). r .z) reads in
     release-goes ys t next p other
     (record {

@@ -14,7 +14,7 @@ use Rattle.header.specs.Base.{legalBase}
 use Rattle.items.specs.declared.Item.{Item}
 use Rattle.items.specs.Items.{wordsIn, listed}
 use Rattle.answers.specs.declared.Reading.{Reading}
-use Rattle.reading_rules.specs.Reading.{rebased, reading}
+use Rattle.reading_rules.specs.Reading.{rebased, reading, Read}
 use Rattle.reading_rules.specs.Guarantee.{Guaranteed, guaranteed}
 use Rattle.reading_rules.specs.Words.{met, wordsOf}
 use Rattle.reading_rules.specs.WordsLaws.{spread, widths, base-word}
@@ -35,7 +35,7 @@ wide : (n w : ℕ) → n < 256 ^ 4 → (w ≡ 4) ⊎ (w ≡ 8) → n < 256 ^ w
 wide n w h (inl e) = rw e h
 wide n w h (inr e) = rw e (omega arith)
 
-module _ (xs : List ℕ) (bytes : Bytes xs) (ok : reading xs .number ≡ 0) where
+module _ (xs : List ℕ) (bytes : Bytes xs) (ok : Read xs) where
   old-small : reading xs .base < 256 ^ 4
   old-small = omega (arith, guaranteed xs ok)
 

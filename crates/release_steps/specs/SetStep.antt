@@ -11,10 +11,11 @@ use lib.Seq.{ext-getD}
 use Rattle.words.specs.Le.{le, Bytes}
 use Rattle.words.specs.LeLaws.{le-cong}
 use Rattle.answers.specs.declared.Reading.{Reading}
-use Rattle.reading_rules.specs.Reading.{rebased, reading}
+use Rattle.reading_rules.specs.Reading.{rebased, reading, Read}
 use Rattle.reading_rules.specs.Guarantee.{guaranteed}
 use Rattle.reading_rules.specs.Words.{met}
 use Rattle.reading_rules.specs.FrameBut.{AlikeBut, frame-but}
+use Rattle.reading_rules.specs.Settings.{OutsideSettings}
 use Rattle.moves.specs.Moves.{Beside}
 use Rattle.moves.specs.MovesLaws.{find}
 use Rattle.move_image.specs.MovingLaws.{same-words}
@@ -44,7 +45,7 @@ module _ (xs s : List ℕ) (ok : Fits xs s) where
       rw e at (set-byte i j h (omega arith))
 
   -- a byte outside the settings part keeps its value
-  pub kept-outside : (k : ℕ) → (k < reading xs .c + 32) ⊎ (reading xs .c + reading xs .z ≤ k) → getD (setImage xs s) k 0 ≡ getD xs k 0
+  pub kept-outside : (k : ℕ) → OutsideSettings (reading xs) k → getD (setImage xs s) k 0 ≡ getD xs k 0
   unfolding setImage
   kept-outside k out = set-outside xs (reading xs) s (guaranteed xs (ok .read)) (ok .sound) k out
 
@@ -82,7 +83,7 @@ module _ (xs s : List ℕ) (ok : Fits xs s) where
   pub words-stay : met (setImage xs s) (reading (setImage xs s)) ≡ met xs (reading xs)
   words-stay = same-words xs (setImage xs s) (ok .read) set-alike set-reads
 
-  pub read-after : reading (setImage xs s) .number ≡ 0
+  pub read-after : Read (setImage xs s)
   read-after = ap (λ (r : Reading). r .number) set-reads ∙ ok .read
 
   -- a sheet without entries changes nothing
@@ -90,7 +91,7 @@ module _ (xs s : List ℕ) (ok : Fits xs s) where
   set-empty none = ext-getD 0 (setImage xs s) xs length-after-set (λ k h. unset-byte k (λ i l. absurd (omega arith)))
 
   -- the sheet fits each image of this identity with a region of this size
-  pub fits-alike : (ys : List ℕ) → reading ys .number ≡ 0 → reading ys .identity ≡ reading xs .identity → reading ys .z ≡ reading xs .z
+  pub fits-alike : (ys : List ℕ) → Read ys → reading ys .identity ≡ reading xs .identity → reading ys .z ≡ reading xs .z
       → Fits ys s
   fits-alike ys fine who long = record { read = fine; sound = rw long (ok .sound); names = rw who (ok .names) }
 

@@ -12,7 +12,7 @@ use Rattle.words.specs.LeLaws.{le-cong}
 use Rattle.header.specs.Base.{legalBase}
 use Rattle.answers.specs.declared.Reading.{Reading}
 use Rattle.reading_rules.specs.Words.{met}
-use Rattle.reading_rules.specs.Reading.{reading}
+use Rattle.reading_rules.specs.Reading.{reading, Read}
 use Rattle.reading_rules.specs.Guarantee.{guaranteed}
 use Rattle.reading_rules.specs.WordsLaws.{words-outside}
 use Rattle.moves.specs.Moves.{Words, difference}
@@ -23,7 +23,7 @@ use Rattle.release_steps.specs.MoveStep.{unmoved-byte, moved-number, len
 use Rattle.release_steps.specs.SetStep.{kept-outside, length-after-set, bytes-after-set, set-reads, words-stay, read-after, fits-alike, same-byte}
 
 -- no byte of a word of a move lies in the settings part
-pub word-kept : (xs ys s : List ℕ) → reading xs .number ≡ 0 → Fits ys s → reading ys .c ≡ reading xs .c
+pub word-kept : (xs ys s : List ℕ) → Read xs → Fits ys s → reading ys .c ≡ reading xs .c
     → reading ys .z ≡ reading xs .z
     → (j : ℕ) → j < movedWords xs .count → Alike (setImage ys s) ys (movedWords xs .at j) (movedWords xs .width j)
 word-kept xs ys s fine ok c z j h = go (words-outside xs (reading xs) (guaranteed xs fine) j h)

@@ -10,11 +10,12 @@ use Rattle.words.specs.Le.{le, Bytes}
 use Rattle.words.specs.Number.{number}
 use Rattle.header.specs.Base.{legalBase}
 use Rattle.table.specs.Entry.{placeOf}
-use Rattle.reading_rules.specs.Reading.{rebased, refusal, reading}
+use Rattle.reading_rules.specs.Reading.{rebased, refusal, reading, Read}
 use Rattle.moves.specs.Moves.{difference}
 use Rattle.move_image.specs.Moving.{movedWords}
 use Rattle.move_answer.specs.MoveAnswer.{refusedMove, acceptedMove}
-use Rattle.sheet.specs.Sheet.{sheetIdentity, count, size, sameIdentity}
+use Rattle.sheet.specs.Sheet.{sheetIdentity, sameIdentity}
+use Rattle.owners.specs.Owners.{ownersFit, owned}
 use Rattle.release.specs.Release.{releasing, releasedImage}
 use Rattle.release.specs.Releasable.{Releasable}
 
@@ -34,6 +35,8 @@ pub data Row : Type 0 where
   -- for an image of the sheet's identity and revision with at least so many region bytes, the sheet by this owner of the list sets two
   -- region bytes to these
   sets : (sheet list : List ℕ) (owner z at first second : ℕ) → Row
+  -- the same by any owner of both bytes, by whatever good list
+  owns : (sheet : List ℕ) (z at first second : ℕ) → Row
   -- by this owner it is refused with 24
   foreign : (sheet list : List ℕ) (owner z : ℕ) → Row
   -- the sheet is refused with 15
@@ -58,16 +61,23 @@ Claim (makes k old new word moved) =
     → (j : ℕ) → j < movedWords xs .count → movedWords xs .width j ≡ k → le k xs (movedWords xs .at j) ≡ word
     → le k (releasedImage xs s new o owner) (movedWords xs .at j) ≡ moved
 Claim (sets s l w z at first second) =
-    (xs : List ℕ) (base : ℕ) → Bytes xs → reading xs .number ≡ 0 → Holds (sameIdentity (sheetIdentity s) (reading xs .identity))
+    (xs : List ℕ) (base : ℕ) → Bytes xs → Read xs → Holds (sameIdentity (sheetIdentity s) (reading xs .identity))
     → z ≤ reading xs .z → Holds (legalBase (length xs) base)
     → (releasing xs s base l w ≡ acceptedMove (reading xs) base)
     × (getD (releasedImage xs s base l w) (reading xs .c + at) 0 ≡ first)
     × (getD (releasedImage xs s base l w) (reading xs .c + at + 1) 0 ≡ second)
+Claim (owns s z at first second) =
+    (xs : List ℕ) (base : ℕ) (l : List ℕ) (w : ℕ) → Bytes xs → Read xs → Holds (sameIdentity (sheetIdentity s) (reading xs .identity))
+    → z ≤ reading xs .z → Holds (legalBase (length xs) base) → Holds (ownersFit l w (reading xs .z))
+    → Holds (owned l w at) → Holds (owned l w (at + 1))
+    → (releasing xs s base l w ≡ acceptedMove (reading xs) base)
+    × (getD (releasedImage xs s base l w) (reading xs .c + at) 0 ≡ first)
+    × (getD (releasedImage xs s base l w) (reading xs .c + at + 1) 0 ≡ second)
 Claim (foreign s l w z) =
-    (xs : List ℕ) (base : ℕ) → reading xs .number ≡ 0 → Holds (sameIdentity (sheetIdentity s) (reading xs .identity)) → z ≤ reading xs .z
+    (xs : List ℕ) (base : ℕ) → Read xs → Holds (sameIdentity (sheetIdentity s) (reading xs .identity)) → z ≤ reading xs .z
     → releasing xs s base l w ≡ refusedMove 24 0
 Claim (unsound s) =
-    (xs : List ℕ) (base : ℕ) (l : List ℕ) (w : ℕ) → reading xs .number ≡ 0 → releasing xs s base l w ≡ refusedMove 15 0
+    (xs : List ℕ) (base : ℕ) (l : List ℕ) (w : ℕ) → Read xs → releasing xs s base l w ≡ refusedMove 15 0
 
 -- every row of a list
 abbrev pub Each : List Row → Type 0
@@ -131,6 +141,7 @@ rows =
     ∷ makes 8 0xFFF80000 0x00100000 0x0000000000000040 0xFFFFFFFF00180040
     ∷ makes 8 0x00100000 0xFFF80000 0xFFFFFFFF00180040 0x0000000000000040
     ∷ sets sheet owners 1 42 40 0x01 0x00
+    ∷ owns sheet 42 40 0x01 0x00
     ∷ foreign sheet owners 2 42
     ∷ unsound (take 25 sheet)
     ∷ []

@@ -1,6 +1,6 @@
 -- Every row of the sample table is right, by one test that is computed.
 -- Assumes nothing.
-use Prim.Native.Nat.{ℕ, suc, _+_, _-_, _%_, _^_, _≤_, _<_}
+use Prim.Native.Nat.{ℕ, zero, suc, _+_, _-_, _%_, _^_, _≤_, _<_}
 use mathlib.Core.Bool.{Bool, true, false, cond, _&&_}
 use mathlib.Core.List.{List, [], _∷_}
 use mathlib.Core.Path.{_≡_, refl, ap, _∙_}
@@ -26,12 +26,12 @@ use Rattle.moves.specs.Moves.{difference}
 use Rattle.move_answer.specs.MoveAnswer.{refusedMove, acceptedMove}
 use Rattle.sheet_bodies.specs.Small.{sample}
 use Rattle.sheet.specs.Sheet.{Sound, sheetIdentity, count, offset, size, bodyAt, contentsFit, bodiesFit, sheetFits, sameIdentity, fieldFits}
-use Rattle.owners.specs.Owners.{ownersFit, fieldsOwned}
+use Rattle.owners.specs.Owners.{ownersFit, owned, fieldsOwned}
 use Rattle.release_judge.specs.Judged.{nameRules, releaseRules}
 use Rattle.release.specs.ReleaseLaws.{release-judged, release-accepted, release-goes}
 use Rattle.release.specs.Releasable.{Releasable}
 use Rattle.release_laws.specs.Theorems.{released-entry, released-word}
-use Rattle.samples.specs.Samples.{Claim, Each, Row, distanceOf, foreign, illegal, legal, makes, moves, points, refuses, rows, sets, sheet, unsound}
+use Rattle.samples.specs.Samples.{Claim, Each, Row, distanceOf, foreign, illegal, legal, makes, moves, owns, points, refuses, rows, sets, sheet, unsound}
 
 -- 1 for a number below 0
 abbrev sign : ℤ → ℕ
@@ -66,6 +66,16 @@ check (sets s l w z at first second) =
     and every (length s) (λ i. getD s i 0 ≤? 255)
     and ownersFit l w z
     and fieldsOwned s l w
+check (owns s z at first second) =
+    contentsFit s
+    and bodiesFit s
+    and every (count s) (fieldFits s z)
+    and count s ≡? 1
+    and offset s 0 ≡? at
+    and size s 0 ≡? 2
+    and getD s (bodyAt s 0) 0 ≡? first
+    and getD s (bodyAt s 0 + 1) 0 ≡? second
+    and every (length s) (λ i. getD s i 0 ≤? 255)
 check (foreign s l w z) = sheetFits s and every (count s) (fieldFits s z) and ownersFit l w z and deny (fieldsOwned s l w)
 check (unsound s) = contentsFit s and deny (bodiesFit s)
 
@@ -123,6 +133,31 @@ right (sets s l w z at first second) (contents, (bodies, (fields, (one, (place, 
       rw (← place) (rw (e, f) at (byte 0 one (omega arith)) ∙ a),
       rw (← place) (byte 1 one (omega arith) ∙ b),
     )
+right (owns s z at first second) (contents, (bodies, (fields, (one, (place, (two, (a, (b, bytes)))))))) =
+    λ xs base l w bx ok names room legal good own-first own-second.
+    let sound : Sound s (reading xs .z) =
+    record { contents = contents; bodies = bodies; fields = λ i h. (fields i h .0, omega (arith, fields i h .1)) } in
+    let goes : Releasable xs s base l w =
+    record {
+      fits = record { read = ok; sound = sound; names = names };
+      good = good;
+      own = λ i h j k. mine l w own-first own-second i (omega arith) j k;
+      legal = legal;
+    } in
+    let byte = released-entry xs s base l w (release-goes xs s base l w goes) bx (bytes-so s bytes) 0 in
+    let e : reading xs .c + offset s 0 + 0 ≡ reading xs .c + offset s 0 = omega arith in
+    let f : bodyAt s 0 + 0 ≡ bodyAt s 0 = omega arith in (
+      release-accepted xs s base l w goes,
+      rw (← place) (rw (e, f) at (byte 0 (omega arith) (omega arith)) ∙ a),
+      rw (← place) (byte 1 (omega arith) (omega arith) ∙ b),
+    )
+  where
+    mine : (l : List ℕ) (w : ℕ) → Holds (owned l w at) → Holds (owned l w (at + 1)) → (i : ℕ) → i < 1 → (j : ℕ) → j < size s i
+        → Holds (owned l w (offset s i + j))
+    mine l w p q zero h zero k = let e : offset s 0 + 0 ≡ at = omega arith in rw e p
+    mine l w p q zero h (suc zero) k = let e : offset s 0 + 1 ≡ at + 1 = omega arith in rw e q
+    mine l w p q zero h (suc (suc j)) k = absurd (omega arith)
+    mine l w p q (suc i) h j k = absurd (omega arith)
 right (foreign s l w z) (fits, (fields, (good, none))) = λ xs base ok names room.
     release-judged xs s base l w ok ∙ refused (reading xs) (length xs) base names (wider l w z (reading xs .z) room good)
     (λ i h. (fields i h .0, omega (arith, fields i h .1)))

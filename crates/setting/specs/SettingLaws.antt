@@ -14,7 +14,7 @@ use Rattle.facts.specs.Fact.{Holds}
 use Rattle.facts.specs.FactLaws.{passes, fails}
 use Rattle.facts.specs.Rules.{Rules, answer, rule, run}
 use Rattle.facts.specs.RulesLaws.{passed, by-test}
-use Rattle.reading_rules.specs.Reading.{reading}
+use Rattle.reading_rules.specs.Reading.{reading, Read}
 use Rattle.answers.specs.AfterLaws.{after-accepted, after-refused, changed-so, kept-so}
 use Rattle.reading_rules.specs.Guarantee.{guaranteed}
 use Rattle.reading_rules.specs.NumbersLaws.{refused-is}
@@ -40,7 +40,7 @@ abbrev setting-rules : List ℕ → ℕ → ℕ → Rules ℕ
 setting-rules xs offset size = rule 17 (settingFits offset size (reading xs .z)) (answer 0)
 
 module _ (xs : List ℕ) (offset size : ℕ) where
-  pub setting-unread : (reading xs .number ≡ 0 → ⊥)
+  pub setting-unread : (Read xs → ⊥)
       → (settingNumber xs offset size ≡ reading xs .number) × (settingPart xs offset size ≡ [])
   unfolding settingNumber settingPart
   setting-unread h =
@@ -48,7 +48,7 @@ module _ (xs : List ℕ) (offset size : ℕ) where
       after-refused (λ number index. number) (reading xs) (setting-rules xs offset size) h in
       (e, kept-so (settingNumber xs offset size) (take size (drop (reading xs .c + offset) xs)) [] (λ z. h (sym e ∙ z)))
 
-  pub setting-refused : reading xs .number ≡ 0 → (Holds (settingFits offset size (reading xs .z)) → ⊥)
+  pub setting-refused : Read xs → (Holds (settingFits offset size (reading xs .z)) → ⊥)
       → (settingNumber xs offset size ≡ 17) × (settingPart xs offset size ≡ [])
   unfolding settingNumber settingPart run
   setting-refused ok h =
@@ -57,7 +57,7 @@ module _ (xs : List ℕ) (offset size : ℕ) where
       (fails (settingFits offset size (reading xs .z)) h) in
       (e, kept-so (settingNumber xs offset size) (take size (drop (reading xs .c + offset) xs)) [] (λ z. omega arith))
 
-  pub setting-accepted : reading xs .number ≡ 0 → Holds (settingFits offset size (reading xs .z))
+  pub setting-accepted : Read xs → Holds (settingFits offset size (reading xs .z))
       → (settingNumber xs offset size ≡ 0) × (settingPart xs offset size ≡ take size (drop (reading xs .c + offset) xs))
   unfolding settingNumber settingPart run
   setting-accepted ok h =
@@ -67,7 +67,7 @@ module _ (xs : List ℕ) (offset size : ℕ) where
       (e, changed-so (settingNumber xs offset size) (take size (drop (reading xs .c + offset) xs)) [] e)
 
   -- what an accepted lookup has passed
-  pub setting-passed : settingNumber xs offset size ≡ 0 → (reading xs .number ≡ 0) × Holds (settingFits offset size (reading xs .z))
+  pub setting-passed : settingNumber xs offset size ≡ 0 → Read xs × Holds (settingFits offset size (reading xs .z))
   unfolding settingNumber
   setting-passed e =
       elim (ℕ-discrete (reading xs .number) 0) [
@@ -78,7 +78,7 @@ module _ (xs : List ℕ) (offset size : ℕ) where
       ]
 
 -- the region's part, looked up, is the setting's part of the image
-pub region-part : (xs : List ℕ) (offset size : ℕ) → reading xs .number ≡ 0
+pub region-part : (xs : List ℕ) (offset size : ℕ) → Read xs
     → regionPart (take (reading xs .z) (drop (reading xs .c) xs)) offset size ≡ settingPart xs offset size
 region-part xs offset size ok =
     let r = reading xs in
@@ -92,7 +92,7 @@ region-part xs offset size ok =
     (λ h. sym (setting-refused xs offset size ok (rw long at h) .1))
 
 -- the empty part of a refused image stands at its start
-pub unread-place : (xs : List ℕ) (offset size : ℕ) → (reading xs .number ≡ 0 → ⊥) → settingPlace xs offset size ≡ 0
+pub unread-place : (xs : List ℕ) (offset size : ℕ) → (Read xs → ⊥) → settingPlace xs offset size ≡ 0
 unfolding settingPlace
 unread-place xs offset size h =
     let e : settingNumber xs offset size ≡ reading xs .number = setting-unread xs offset size h .0 in
@@ -100,7 +100,7 @@ unread-place xs offset size h =
     rw (ne-eqb (settingNumber xs offset size) 0 none) (omega (arith, ap (λ (r : Reading). r .c) (refused-is xs h)))
 
 -- the place in the region's part, seen from the image
-pub region-place : (xs : List ℕ) (offset size : ℕ) → reading xs .number ≡ 0
+pub region-place : (xs : List ℕ) (offset size : ℕ) → Read xs
     → regionPlace (take (reading xs .z) (drop (reading xs .c) xs)) offset size + reading xs .c ≡ settingPlace xs offset size
 unfolding settingPlace
 region-place xs offset size ok =

@@ -6,7 +6,7 @@ use mathlib.Core.List.{List}
 use mathlib.Core.Path.{_≡_, ap}
 use Rattle.facts.specs.Fact.{Holds}
 use Rattle.answers.specs.declared.Reading.{Reading}
-use Rattle.reading_rules.specs.Reading.{reading}
+use Rattle.reading_rules.specs.Reading.{reading, Read}
 use Rattle.reading_rules.specs.Small.{small, settingBytes, small-reads}
 use Rattle.setting.specs.Setting.{settingFits, settingNumber, settingPlace}
 use Rattle.setting.specs.SettingLaws.{setting-accepted}
@@ -14,7 +14,7 @@ use Rattle.setting.specs.SettingLaws.{setting-accepted}
 abbrev maker : List ℕ
 maker = small 0xFFF80000 0xFFF80040 (settingBytes 0 1)
 
-read : reading maker .number ≡ 0
+read : Read maker
 read = ap (λ (r : Reading). r .number) small-reads
 
 inside : Holds (settingFits 40 2 (reading maker .z))

@@ -6,7 +6,8 @@ use mathlib.Core.List.{List, _++_}
 use lib.ListN.{length, getD, take, drop, set}
 use Rattle.facts.specs.Fact.{Holds}
 use Rattle.answers.specs.declared.Reading.{Reading}
-use Rattle.reading_rules.specs.Reading.{reading}
+use Rattle.reading_rules.specs.Reading.{reading, Read}
+use Rattle.reading_rules.specs.Settings.{settingsAt, settingsSize}
 use Rattle.moves.specs.Moves.{Words}
 use Rattle.sheet.specs.Sheet.{Sound, sheetIdentity, count, offset, size, bodyAt, sameIdentity}
 
@@ -27,8 +28,8 @@ joined xs from long m = take from xs ++ (m ++ drop long (drop from xs))
 -- the image with the sheet's bodies in its settings part, which is from 32 on in the region; no other byte is another
 unfoldable pub setBy : List ℕ → Reading → List ℕ → List ℕ
 setBy xs r s =
-    let from = r .c + 32 in
-    let long = r .z - 32 in
+    let from = settingsAt r in
+    let long = settingsSize r in
     joined xs from long (written (take long (drop from xs)) s (count s))
 
 -- an image that reads, with the sheet's bytes set
@@ -37,7 +38,7 @@ setImage xs s = setBy xs (reading xs) s
 
 -- a sheet that passes 15, 16 and 17 for an image that reads
 pub record Fits (xs s : List ℕ) : Type 0 where
-  pub read : reading xs .number ≡ 0
+  pub read : Read xs
   pub sound : Sound s (reading xs .z)
   pub names : Holds (sameIdentity (sheetIdentity s) (reading xs .identity))
 

@@ -12,6 +12,7 @@ use Rattle.facts.specs.Fact.{Holds}
 use Rattle.words.specs.Le.{le, Bytes}
 use Rattle.answers.specs.declared.Reading.{Reading}
 use Rattle.reading_rules.specs.Guarantee.{Guaranteed}
+use Rattle.reading_rules.specs.Settings.{settingsAt, settingsSize, OutsideSettings}
 use Rattle.moves.specs.Moves.{Words, Beside}
 use Rattle.sheet_bodies.specs.PartLaws.{length-joined, joined-low, joined-mid, joined-high}
 use Rattle.sheet.specs.Sheet.{Sound, count, offset, size, bodyAt, fieldFits}
@@ -113,48 +114,48 @@ written-in p s z sound long (suc n) i j hn hi hj =
 
 -- the settings part
 abbrev settingsPart : List ℕ → Reading → List ℕ
-settingsPart xs r = take (r .z - 32) (drop (r .c + 32) xs)
+settingsPart xs r = take (settingsSize r) (drop (settingsAt r) xs)
 
 module _ (xs : List ℕ) (r : Reading) (s : List ℕ) (g : Guaranteed xs r) (sound : Sound s (r .z)) where
-  room : r .c + 32 + (r .z - 32) ≤ length xs
+  room : settingsAt r + (settingsSize r) ≤ length xs
   room = omega (arith, g)
 
-  part-long : length (settingsPart xs r) ≡ r .z - 32
-  part-long = length-take-le (r .z - 32) (drop (r .c + 32) xs) (rw length-drop (omega (arith, g)))
+  part-long : length (settingsPart xs r) ≡ settingsSize r
+  part-long = length-take-le (settingsSize r) (drop (settingsAt r) xs) (rw length-drop (omega (arith, g)))
 
-  new-long : length (written (settingsPart xs r) s (count s)) ≡ r .z - 32
+  new-long : length (written (settingsPart xs r) s (count s)) ≡ settingsSize r
   new-long = length-written (settingsPart xs r) s (count s) ∙ part-long
 
   pub length-set-by : length (setBy xs r s) ≡ length xs
   unfolding setBy
-  length-set-by = length-joined xs (r .c + 32) (r .z - 32) (written (settingsPart xs r) s (count s)) room new-long
+  length-set-by = length-joined xs (settingsAt r) (settingsSize r) (written (settingsPart xs r) s (count s)) room new-long
 
   -- outside the settings part every byte is kept
-  pub set-outside : (k : ℕ) → (k < r .c + 32) ⊎ (r .c + r .z ≤ k) → getD (setBy xs r s) k 0 ≡ getD xs k 0
+  pub set-outside : (k : ℕ) → OutsideSettings r k → getD (setBy xs r s) k 0 ≡ getD xs k 0
   unfolding setBy
-  set-outside k (inl h) = joined-low xs (r .c + 32) (r .z - 32) (written (settingsPart xs r) s (count s)) room new-long k h
-  set-outside k (inr h) = joined-high xs (r .c + 32) (r .z - 32) (written (settingsPart xs r) s (count s)) room new-long k
+  set-outside k (inl h) = joined-low xs (settingsAt r) (settingsSize r) (written (settingsPart xs r) s (count s)) room new-long k h
+  set-outside k (inr h) = joined-high xs (settingsAt r) (settingsSize r) (written (settingsPart xs r) s (count s)) room new-long k
       (omega (arith, g))
 
   -- outside the sheet's own entries every byte is kept
   pub set-beside : (k : ℕ) → Beside (fieldsOf r s) (count s) k → getD (setBy xs r s) k 0 ≡ getD xs k 0
   unfolding setBy
   set-beside k out =
-      elim (decLt k (r .c + 32)) [
+      elim (decLt k (settingsAt r)) [
         | yes h ↦ set-outside k (inl h)
         | no h ↦ elim (decLt k (r .c + r .z)) [
           | no l ↦ set-outside k (inr (omega arith))
           | yes l ↦
-              let j = k - (r .c + 32) in
-              let e : r .c + 32 + j ≡ k = omega arith in
-              rw e at (joined-mid xs (r .c + 32) (r .z - 32) (written (settingsPart xs r) s (count s)) room new-long j (omega arith)
+              let j = k - (settingsAt r) in
+              let e : settingsAt r + j ≡ k = omega arith in
+              rw e at (joined-mid xs (settingsAt r) (settingsSize r) (written (settingsPart xs r) s (count s)) room new-long j (omega arith)
               ∙ written-beside (settingsPart xs r) s (count s) j (λ i hi. near i (omega arith) (out i hi) (sound .fields i hi))
-              ∙ getD-take (r .z - 32) (drop (r .c + 32) xs) j 0 (omega arith) ∙ getD-drop (r .c + 32) xs j 0)
+              ∙ getD-take (settingsSize r) (drop (settingsAt r) xs) j 0 (omega arith) ∙ getD-drop (settingsAt r) xs j 0)
         ]
       ]
     where
-      near : (i : ℕ) → r .c + 32 ≤ k → (k < r .c + offset s i) ⊎ (r .c + offset s i + size s i ≤ k) → Holds (fieldFits s (r .z) i)
-          → (k - (r .c + 32) < offset s i - 32) ⊎ (offset s i - 32 + size s i ≤ k - (r .c + 32))
+      near : (i : ℕ) → settingsAt r ≤ k → (k < r .c + offset s i) ⊎ (r .c + offset s i + size s i ≤ k) → Holds (fieldFits s (r .z) i)
+          → (k - (settingsAt r) < offset s i - 32) ⊎ (offset s i - 32 + size s i ≤ k - (settingsAt r))
       near i hi (inl a) f = inl (omega arith)
       near i hi (inr a) f = inr (omega arith)
 
@@ -163,7 +164,7 @@ module _ (xs : List ℕ) (r : Reading) (s : List ℕ) (g : Guaranteed xs r) (sou
   unfolding setBy
   set-in i j hi hj =
       let f = sound .fields i hi in
-      let e : r .c + 32 + (offset s i - 32 + j) ≡ r .c + offset s i + j = omega arith in
-      rw e at (joined-mid xs (r .c + 32) (r .z - 32) (written (settingsPart xs r) s (count s)) room new-long (offset s i - 32 + j)
+      let e : settingsAt r + (offset s i - 32 + j) ≡ r .c + offset s i + j = omega arith in
+      rw e at (joined-mid xs (settingsAt r) (settingsSize r) (written (settingsPart xs r) s (count s)) room new-long (offset s i - 32 + j)
       (omega arith)
       ∙ written-in (settingsPart xs r) s (r .z) sound part-long (count s) i j (omega arith) hi hj)

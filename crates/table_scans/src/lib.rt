@@ -1,9 +1,10 @@
 // Rules 12 to 14 of document 01 and 22 of document 02 over all entries: the first that is refused, and the first whose word isn't clear.
 ghost use mathlib.Core.Bool.{true};
+ghost use mathlib.Core.Logic.{_⊎_};
 ghost use mathlib.Core.Path.{_≡_};
 ghost use Prim.Native.Nat.{ℕ, _+_, _*_, _≤_, _<_};
 ghost use lib.ListN.{length};
-ghost use Rattle.facts.specs.Fact.{Holds, Tells, every};
+ghost use Rattle.facts.specs.Fact.{Holds, Tells};
 ghost use Rattle.facts.specs.First.{firstFault};
 ghost use Rattle.table.specs.Passes.{place, unrefused, outside, apart, clear};
 ghost use Rattle.table_order.specs.Ranks.{allApart};
@@ -67,29 +68,18 @@ fn end_with(high: usize, a: usize) -> usize
     high
 }
 
-// How many of the i words before the word at a need no look, where none ends above `high`: all or none.
-fn skipped(a: usize, high: usize, i: usize) -> usize
-    ensures { λ r. ⌜ (r ≤ i) × (0 < r → high ≤ a) ⌝ }
+// How many of the i words before the word at a need no look: all, where it is sure that no two share a byte or none ends above `high`; else
+// none.
+fn skipped(sure: bool, a: usize, high: usize, i: usize) -> usize
+    ensures { λ r. ⌜ (r ≤ i) × (0 < r → (sure ≡ true) ⊎ (high ≤ a)) ⌝ }
 {
+    if sure {
+        return i;
+    }
     if a < high {
         return 0;
     }
     i
-}
-
-// Whether each of n words lies at or above E and outside the configuration region.
-fn all_outside(image: &[u8], t: usize, n: usize, E: usize, c: usize, z: usize) -> bool
-    requires { ⌜ (t + 4 * n ≤ length (now image)) × (c + z ≤ length (now image)) × ((i : ℕ) → i < n → place (now image) t i .number ≡ 0) ⌝ }
-    ensures { λ r. ⌜ Tells r (every n (λ i. outside (place (now (image .entry)) t i .at) E c z)) ⌝ }
-{
-    let mut i = 0;
-    while i < n {
-        if !is_outside(table::spot_at(image, t, i), E, c, z) {
-            return false;
-        }
-        i += 1;
-    }
-    true
 }
 
 // Whether no two of n words share a byte, by their places in order.
@@ -102,31 +92,26 @@ fn all_apart(image: &[u8], t: usize, n: usize) -> bool
     table_order::rank(image, t, n, &mut list)
 }
 
-// Whether all of more than 16 words are clear; few are sooner held against each other than put in order.
-fn all_clear(image: &[u8], t: usize, n: usize, c: usize, z: usize) -> bool
-    requires { ⌜ (t + 4 * n ≤ length (now image)) × (c + z ≤ length (now image)) × ((i : ℕ) → i < n → place (now image) t i .number ≡ 0)
-        × (length (now image) ≤ 16777216) × (n ≤ 1024) ⌝ }
-    ensures { λ r. ⌜ (r ≡ true → (i : ℕ) → i < n → Holds (clear (now (image .entry)) t (t + 4 * n) c z i)) ⌝ }
+// Whether it is sure that no two of n words share a byte: few are sooner held against each other than put in order.
+fn surely_apart(image: &[u8], t: usize, n: usize) -> bool
+    requires { ⌜ (t + 4 * n ≤ length (now image)) × (length (now image) ≤ 16777216) × (n ≤ 1024)
+        × ((i : ℕ) → i < n → place (now image) t i .number ≡ 0) ⌝ }
+    ensures { λ r. ⌜ (r ≡ true → Holds (allApart (now (image .entry)) t n)) ⌝ }
 {
     if n <= 16 {
-        return false;
-    }
-    if !all_outside(image, t, n, t + 4 * n, c, z) {
         return false;
     }
     all_apart(image, t, n)
 }
 
-// Rule 14, where 12, 22 and 13 are passed: the first of n entries whose word isn't clear, or n. Where not all are, the scan finds it: only a
-// word that starts below the highest end so far is held against each before it.
+// Rule 14, where 12, 22 and 13 are passed: the first of n entries whose word isn't clear, or n. The nested scan answers for every table; a
+// word is held against each before it, but where all are known to lie apart or it starts at or above the highest end so far.
 pub fn first_overlap(image: &[u8], t: usize, n: usize, c: usize, z: usize) -> usize
     requires { ⌜ (t + 4 * n ≤ length (now image)) × (c + z ≤ length (now image)) × ((i : ℕ) → i < n → place (now image) t i .number ≡ 0)
         × (length (now image) ≤ 16777216) × (n ≤ 1024) ⌝ }
     ensures { λ r. ⌜ r ≡ firstFault (clear (now (image .entry)) t (t + 4 * n) c z) n ⌝ }
 {
-    if all_clear(image, t, n, c, z) {
-        return n;
-    }
+    let sure = surely_apart(image, t, n);
     let E = t + 4 * n;
     let mut i = 0;
     let mut high = 0;
@@ -138,7 +123,7 @@ pub fn first_overlap(image: &[u8], t: usize, n: usize, c: usize, z: usize) -> us
         if !is_outside(a, E, c, z) {
             break 'entries i;
         }
-        let mut j = skipped(a, high, i);
+        let mut j = skipped(sure, a, high, i);
         while j < i {
             if !is_apart(a, table::spot_at(image, t, j)) {
                 break 'entries i;

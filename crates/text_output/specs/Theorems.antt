@@ -12,7 +12,7 @@ use lib.Seq.{sets-eq, take-at, take-all, length-take-le, length-sets, getD-appen
 use Rattle.facts.specs.Fact.{test}
 use Rattle.text_lines.specs.Text.{ascii, digits, decimal, hexDigit, hexDigits}
 use Rattle.facts.specs.Rules.{run}
-use Rattle.reading_rules.specs.Reading.{rules, reading}
+use Rattle.reading_rules.specs.Reading.{rules, reading, Read}
 use Rattle.reading_rules.specs.Guarantee.{guaranteed}
 use Rattle.answers.specs.declared.Audited.{Audited}
 use Rattle.audit.specs.Audit.{refusedAudit}
@@ -54,7 +54,7 @@ unfolding reading rules run test
 empty-read = refl
 
 -- the first file's own refusal goes before
-pub vendor-first : (vendor shipped : List ℕ) → (reading (taken vendor) .number ≡ 0 → ⊥)
+pub vendor-first : (vendor shipped : List ℕ) → (Read (taken vendor) → ⊥)
     → output vendor shipped ≡ refusal (reading (taken vendor) .number)
 unfolding output
 vendor-first vendor shipped h =
@@ -67,7 +67,7 @@ vendor-none vendor shipped e =
     let one : reading (taken vendor) .number ≡ 1 = rw e empty-read in
     vendor-first vendor shipped (λ z. omega arith) ∙ ap refusal one
 
-shipped-none : (vendor shipped : List ℕ) → reading (taken vendor) .number ≡ 0 → taken shipped ≡ []
+shipped-none : (vendor shipped : List ℕ) → Read (taken vendor) → taken shipped ≡ []
     → output vendor shipped ≡ ascii "refused 19\n"
 unfolding output digits decimal test
 shipped-none vendor shipped ok e =
@@ -82,7 +82,7 @@ pub vendor-longer : (vendor shipped : List ℕ) → 28672 < length vendor → ou
 vendor-longer vendor shipped h = vendor-none vendor shipped (taken-none vendor h)
 
 -- "19 for the second"
-pub shipped-longer : (vendor shipped : List ℕ) → reading (taken vendor) .number ≡ 0 → 28672 < length shipped
+pub shipped-longer : (vendor shipped : List ℕ) → Read (taken vendor) → 28672 < length shipped
     → output vendor shipped ≡ ascii "refused 19\n"
 shipped-longer vendor shipped ok h = shipped-none vendor shipped ok (taken-none shipped h)
 
@@ -90,7 +90,7 @@ shipped-longer vendor shipped ok h = shipped-none vendor shipped ok (taken-none 
 pub vendor-empty : (shipped : List ℕ) → output [] shipped ≡ ascii "refused 1\n"
 vendor-empty shipped = vendor-none [] shipped (taken-whole [] (omega arith))
 
-pub shipped-empty : (vendor : List ℕ) → reading (taken vendor) .number ≡ 0 → output vendor [] ≡ ascii "refused 19\n"
+pub shipped-empty : (vendor : List ℕ) → Read (taken vendor) → output vendor [] ≡ ascii "refused 19\n"
 shipped-empty vendor ok = shipped-none vendor [] ok (taken-whole [] (omega arith))
 
 -- 28,673 bytes of a file are enough to read

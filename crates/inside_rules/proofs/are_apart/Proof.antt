@@ -8,7 +8,7 @@ is-ordered-requires c κs = search needs
 returns : tie.Need-returns
 returns c =
     let told = c .before in
-    record { says = told .before .before .pre .1 (told .is-ordered .ensures (c .if1 .taken)) }
+    record { says = told .before .before .pre .1 (rw (c .if1 .taken) at (told .is-ordered .ensures .says)) }
 
 words-apart-requires : tie.Need-words-apart-requires
 words-apart-requires c κs = search needs

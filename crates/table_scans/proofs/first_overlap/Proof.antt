@@ -11,23 +11,23 @@ use borrow.Author.Count.{below-more}
 use mathlib.Core.Path.{_≡_}
 use native.Mathlib.Omega.{arith}
 use native.Mathlib.Nat.{le-trans}
-use mathlib.Core.Logic.{inr}
+use mathlib.Core.Logic.{inl, inr}
 use borrow.Author.Needs.{needs}
 use Rattle.table_scans.proofs.first_overlap.Statement.{statement}
 use Rattle.table_scans.proofs.first_overlap.Tie as tie
 
 abbrev Inv-loop : tie.InvT-loop
-Inv-loop image t n c z E i high a j₀ j = (j ≤ i) × ((k : ℕ) → k < j → Holds (apart (place image t i .at) (place image t k .at)))
+Inv-loop image t n c z sure E i high a j₀ j = (j ≤ i) × ((k : ℕ) → k < j → Holds (apart (place image t i .at) (place image t k .at)))
 
 abbrev μ-loop : tie.MeasureT-loop
-μ-loop image t n c z E i high a j₀ j = i - j
+μ-loop image t n c z sure E i high a j₀ j = i - j
 
 abbrev Inv-entries : tie.InvT-entries
-Inv-entries image t n c z E i₀ high₀ i high =
+Inv-entries image t n c z sure E i₀ high₀ i high =
     (i ≤ n) × ((k : ℕ) → k < i → Holds (clear image t (t + 4 * n) c z k)) × ((k : ℕ) → k < i → place image t k .at + 4 ≤ high)
 
 abbrev μ-entries : tie.MeasureT-entries
-μ-entries image t n c z E i₀ high₀ i high = n - i
+μ-entries image t n c z sure E i₀ high₀ i high = n - i
 
 -- an entry's place lies in the image
 small : (w : Place) (xs : List ℕ) (t i : ℕ) → w ≡ place xs t i → w .at ≤ length xs
@@ -41,18 +41,14 @@ above : (xs : List ℕ) (t i : ℕ) (w : Place) {e high : ℕ} → w ≡ place x
 above xs t i w is h k = rw is at (le-trans h k)
 
 -- the entry at hand, past its first check and at a word apart from it
-beyond : (c : tie.Else3 Inv-loop μ-loop Inv-entries μ-entries) →
+beyond : (c : tie.Else2 Inv-loop μ-loop Inv-entries μ-entries) →
     let at-entries = c .before .before .before .before in
-    let a = at-entries .before .before .before .before .args in
+    let a = at-entries .before .before .before .args in
     Holds (outside (place (a .image .now) (a .t) (at-entries .entries .i) .at) (a .t + 4 * a .n) (a .c) (a .z))
-beyond c = rw (c .before .before .point-at .ensures) at (granted (c .before .is-outside .ensures) (c .if3 .left))
+beyond c = rw (c .before .before .point-at .ensures) at (granted (c .before .is-outside .ensures) (c .if2 .left))
 
-all-clear-requires : tie.Need-all-clear-requires Inv-loop μ-loop Inv-entries μ-entries
-all-clear-requires c κs = search needs
-
-returns : tie.Need-returns Inv-loop μ-loop Inv-entries μ-entries
-returns c =
-    is-first (record { within = omega arith; clear = c .before .all-clear .ensures (c .if1 .taken); fault = λ h. absurd (omega arith) })
+surely-apart-requires : tie.Need-surely-apart-requires Inv-loop μ-loop Inv-entries μ-entries
+surely-apart-requires c κs = search needs
 
 mul-E : tie.Need-mul-E Inv-loop μ-loop Inv-entries μ-entries
 mul-E c = search needs
@@ -69,7 +65,7 @@ point-at-requires c κs = search needs
 is-outside-requires : tie.Need-is-outside-requires Inv-loop μ-loop Inv-entries μ-entries
 is-outside-requires c κs =
     let at-entries = c .before .before in
-    let start = at-entries .before .before .before .before in
+    let start = at-entries .before .before .before in
     omega (arith, small (c .point-at .result) (start .args .image .now) (start .args .t) (at-entries .entries .i) (c .point-at .ensures))
 
 skipped-requires : tie.Need-skipped-requires Inv-loop μ-loop Inv-entries μ-entries
@@ -79,18 +75,22 @@ loop-holds : tie.Need-loop-holds Inv-loop μ-loop Inv-entries μ-entries
 loop-holds c =
     let at-point = c .before .before .before in
     let at-entries = at-point .before .before in
-    let start = at-entries .before .before .before .before in (
+    let start = at-entries .before .before .before in (
       c .skipped .ensures .0,
       λ k h.
           let l = c .skipped .ensures .0 in
-          inr
-          (above (start .args .image .now) (start .args .t) (at-entries .entries .i) (at-point .point-at .result)
-          (at-point .point-at .ensures) (at-entries .entries .inv .2 k (omega arith)) (c .skipped .ensures .1 (omega arith))),
+          elim (c .skipped .ensures .1 (omega arith)) [
+            | inl sure ↦ at-entries .before .surely-apart .ensures sure (at-entries .entries .i) (omega arith) k (omega arith)
+            | inr up ↦
+                inr
+                (above (start .args .image .now) (start .args .t) (at-entries .entries .i) (at-point .point-at .result)
+                (at-point .point-at .ensures) (at-entries .entries .inv .2 k (omega arith)) up)
+          ],
     )
 
 spot-at-requires : tie.Need-spot-at-requires Inv-loop μ-loop Inv-entries μ-entries
 spot-at-requires c κs =
-    let start = c .before .before .before .before .before .before .before .before .before .before .before in
+    let start = c .before .before .before .before .before .before .before .before .before .before in
     (omega (arith, start .pre .0), start .pre .2 (c .before .loop .j) (omega arith))
 
 is-apart-requires : tie.Need-is-apart-requires Inv-loop μ-loop Inv-entries μ-entries
@@ -98,7 +98,7 @@ is-apart-requires c κs =
     let at-loop = c .before .before in
     let at-point = at-loop .before .before .before .before in
     let at-entries = at-point .before .before in
-    let start = at-entries .before .before .before .before in
+    let start = at-entries .before .before .before in
     let xs = start .args .image .now in
     omega (
       arith,
@@ -120,14 +120,14 @@ loop-again c =
       omega arith,
       below-more _ _ (at-loop .loop .inv .1)
           (rw (at-point .point-at .ensures, c .before .before .spot-at .ensures) at
-          (granted (c .before .is-apart .ensures) (c .if4 .left))),
+          (granted (c .before .is-apart .ensures) (c .if3 .left))),
     )
 
 end-with-requires : tie.Need-end-with-requires Inv-loop μ-loop Inv-entries μ-entries
 end-with-requires c κs =
     let at-point = c .before .before .before .before .before in
     let at-entries = at-point .before .before in
-    let start = at-entries .before .before .before .before in
+    let start = at-entries .before .before .before in
     let near-by = small (at-point .point-at .result) (start .args .image .now) (start .args .t) (at-entries .entries .i) in
     omega (arith, start, near-by (at-point .point-at .ensures))
 
@@ -148,22 +148,22 @@ entries-again c =
           (rw (at-point .point-at .ensures) at (c .end-with .ensures .1)),
     )
 
-returns-2 : tie.Need-returns-2 Inv-loop μ-loop Inv-entries μ-entries
-returns-2 c =
-    let e : c .before .entries .i ≡ c .before .before .before .before .before .args .n = omega arith in
+returns : tie.Need-returns Inv-loop μ-loop Inv-entries μ-entries
+returns c =
+    let e : c .before .entries .i ≡ c .before .before .before .before .args .n = omega arith in
     is-first (record { within = omega arith; clear = c .before .entries .inv .1; fault = λ h. absurd (omega arith) })
 
-returns-3 : tie.Need-returns-3 Inv-loop μ-loop Inv-entries μ-entries
-returns-3 c =
+returns-2 : tie.Need-returns-2 Inv-loop μ-loop Inv-entries μ-entries
+returns-2 c =
     let at-entries = c .before .before .before .before in
     is-first (record {
       within = omega arith;
       clear = at-entries .entries .inv .1;
-      fault = λ h p. refuted (c .before .is-outside .ensures) (c .if3 .taken) (rw (c .before .before .point-at .ensures) (p .0));
+      fault = λ h p. refuted (c .before .is-outside .ensures) (c .if2 .taken) (rw (c .before .before .point-at .ensures) (p .0));
     })
 
-returns-4 : tie.Need-returns-4 Inv-loop μ-loop Inv-entries μ-entries
-returns-4 c =
+returns-3 : tie.Need-returns-3 Inv-loop μ-loop Inv-entries μ-entries
+returns-3 c =
     let at-loop = c .before .before .before .before in
     let at-point = at-loop .before .before .before .before in
     let at-entries = at-point .before .before in
@@ -171,7 +171,7 @@ returns-4 c =
       within = omega arith;
       clear = at-entries .entries .inv .1;
       fault = λ h p.
-          refuted (c .before .is-apart .ensures) (c .if4 .taken)
+          refuted (c .before .is-apart .ensures) (c .if3 .taken)
           (rw (at-point .point-at .ensures, c .before .before .spot-at .ensures) (p .1 (at-loop .loop .j) (omega arith)));
     })
 
@@ -183,8 +183,7 @@ first-overlap-spec =
     μ-loop
     Inv-entries
     μ-entries
-    all-clear-requires
-    returns
+    surely-apart-requires
     mul-E
     add-E
     entries-holds
@@ -201,6 +200,6 @@ first-overlap-spec =
     add-i
     entries-less
     entries-again
+    returns
     returns-2
-    returns-3
-    returns-4)
+    returns-3)
