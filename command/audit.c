@@ -1,8 +1,9 @@
-/* audit VENDOR SHIPPED: every difference between the shipped file and the vendor's image moved. */
+/* An audit told by lines: every difference between the shipped file and the vendor's image moved. */
+#include "forms.h"
+
 #include <inttypes.h>
 #include <stdio.h>
 
-#include "checking.h"
 #include "ranges.h"
 
 /* One line for each difference until one can't be written. */
@@ -64,10 +65,4 @@ enum status show_audit(const struct check *check, unsigned options)
 	show_differences(check, options);
 	printf("verdict %s\n", verdict_of(check));
 	return is_good(check) ? FINE : UNEXPLAINED;
-}
-
-/* audit [--bytes | --ranges | --json] [--report FILE] [--text FILE] VENDOR SHIPPED, or a list */
-enum status do_audit(char **word, const struct options *options)
-{
-	return run_checks(false, word, options);
 }

@@ -1,8 +1,9 @@
 /* audit --json and verify --json: the whole check as one document. */
+#include "forms.h"
+
 #include <inttypes.h>
 #include <stdio.h>
 
-#include "checking.h"
 #include "json.h"
 #include "letters.h"
 #include "ranges.h"

@@ -3,14 +3,13 @@
 
 #include "checking.h"
 
-#include <errno.h>
 #include <stdio.h>
 #include <stdlib.h>
 #include <string.h>
 
 #include "files.h"
+#include "forms.h"
 #include "messages.h"
-#include "numbers.h"
 #include "page.h"
 #include "ranges.h"
 
@@ -112,7 +111,8 @@ static enum status tell_check(struct check *check, const struct options *options
 	return check->verify ? show_verify(check) : show_audit(check, options->given);
 }
 
-static enum status run_one(bool verify, char **word, const struct options *options)
+/* All of one pair. */
+enum status run_one(bool verify, char **word, const struct options *options)
 {
 	struct check check;
 	enum status status = FAILED;
@@ -121,41 +121,4 @@ static enum status run_one(bool verify, char **word, const struct options *optio
 		status = tell_check(&check, options);
 	end_check(&check);
 	return status;
-}
-
-/* ---- the words ---- */
-
-/* Two options that can't stand together; NULL where there is none. */
-static const char *find_clash(unsigned options)
-{
-	const unsigned forms = options & (BYTES | RANGES | JSON);
-	if (forms == (BYTES | RANGES))
-		return "--bytes and --ranges exclude each other";
-	if ((forms & (forms - 1)) != 0)
-		return "--json has both bytes and ranges: no other form goes with it";
-	if ((options & (OWNERS | OWNER)) == OWNERS)
-		return "--owner N is missing: who released by LIST, 1 or 2";
-	if ((options & (OWNERS | OWNER)) == OWNER)
-		return "--owners LIST is missing: whose each setting is; without both every setting is owner 1's";
-	if ((options & (LIST | REPORTS)) == REPORTS)
-		return "--reports goes with --list; of one pair --report FILE is the page";
-	if ((options & LIST) == 0)
-		return NULL;
-	if ((options & (REPORT | TEXT)) != 0)
-		return "with --list the pages go to a folder: --reports FOLDER";
-	return forms != 0 ? "--list has a line for each pair: no other form goes with it" : NULL;
-}
-
-/* audit or verify, of one pair or of a list of them. */
-enum status run_checks(bool verify, char **word, const struct options *options)
-{
-	const char *clash = find_clash(options->given);
-	uint64_t owner;
-	if (clash != NULL)
-		return fail_usage(verify ? "verify" : "audit", clash, "", "");
-	if (options->owner != NULL && !take_number("verify", "--owner", options->owner, &owner))
-		return FAILED;
-	if ((options->given & LIST) != 0)
-		return run_list(verify, options);
-	return run_one(verify, word, options);
 }

@@ -4,6 +4,8 @@
  */
 #define _XOPEN_SOURCE 700
 
+#include "list.h"
+
 #include <errno.h>
 #include <inttypes.h>
 #include <stdio.h>

@@ -1,8 +1,9 @@
-/* verify VENDOR SHEET.. SHIPPED: is the shipped file the release of the vendor's image with these sheets? */
+/* A verify told by lines: is the shipped file the release of the vendor's image with these sheets? */
+#include "forms.h"
+
 #include <inttypes.h>
 #include <stdio.h>
 
-#include "checking.h"
 #include "letters.h"
 #include "messages.h"
 #include "ranges.h"
@@ -43,10 +44,4 @@ enum status show_verify(const struct check *check)
 	printf("bits %" PRIu64 "\n", count_of(check, PAJURENDA_AUDIT_BITS));
 	show_ranges(check);
 	return is_good(check) ? FINE : UNEXPLAINED;
-}
-
-/* verify [--owners LIST --owner N] [--json] [--report FILE] [--text FILE] VENDOR SHEET.. SHIPPED, or a list */
-enum status do_verify(char **word, const struct options *options)
-{
-	return run_checks(true, word, options);
 }

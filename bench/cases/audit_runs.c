@@ -2,6 +2,7 @@
    cc -std=c11 second.c build.c audit_runs.c -o audit_runs
    audit_runs 0..9 FOLDER: vendor.bin and shipped.bin of that run go into the folder, its output to standard output. */
 #include "cases.h"
+#include "pair_vendor.h"
 #include "../second/second.h"
 
 #include <inttypes.h>
@@ -59,12 +60,9 @@ static void print_output(void)
 
 /* ---- the pairs ---- */
 
-/* A vendor image of this length and base, of header revision 6: a region of 400 bytes at 4,096, four words, one of them
-   at the very end; a module of this kind between the words. */
-static void build_vendor(uint64_t length, uint64_t base, enum kind kind)
+/* A vendor image of this length and base, of header revision 6; a module of this kind between the words. */
+static void build_at(uint64_t length, uint64_t base, enum kind kind)
 {
-	const uint64_t place[] = { 4498, 4998, 6001, length - 4 };
-	static const uint64_t value[] = { 0xFFF80040, 0x12345678, 0xFFFFFFFC, 0xFFF81FF0 };
 	start_small();
 	now.module = 1 + kind;
 	now.length = length;
@@ -73,17 +71,7 @@ static void build_vendor(uint64_t length, uint64_t base, enum kind kind)
 	now.header_revision = 6;
 	now.L = 80;
 	now.extended = 0x0102;
-	now.n = COUNT(place);
-	settle();
-	now.c = 4096;
-	now.z = 400;
-	for (uint64_t k = 0; k < now.n; k++)
-		now.entry[k] = word(place[k], k >= 2, k >= 2 ? 15 : 0);
-	build();
-	for (uint64_t k = 0; k < now.n; k++)
-		put(place[k], 4, value[k]);
-	for (uint64_t at = now.c + 8; at < now.c + now.z; at++)
-		put(at, 1, at * 37 + 11);
+	build_vendor();
 }
 
 /* "Moving": the shipped file is the vendor's image moved; both are as long as it. */
@@ -109,21 +97,21 @@ static void turn(uint64_t at, uint64_t mask)
 /* A whole pair, moved. */
 static void make_pair(uint64_t length)
 {
-	build_vendor(length, 0xFFF80000, length % 2 == 0 ? KIND_PE64 : KIND_TE);
+	build_at(length, 0xFFF80000, length % 2 == 0 ? KIND_PE64 : KIND_TE);
 	ship(0x00100000);
 }
 
 /* The base with eight digits that count, and nothing else. */
 static void make_top(void)
 {
-	build_vendor(8192, 0x00100000, KIND_PE32);
+	build_at(8192, 0x00100000, KIND_PE32);
 	ship(0xFFF80000);
 }
 
 /* The first and the last byte, both sides of each end of the settings, and in and beside the image base and a word of the module. */
 static void make_edges(void)
 {
-	build_vendor(8192, 0xFFF80000, KIND_TE);
+	build_at(8192, 0xFFF80000, KIND_TE);
 	ship(0x00100000);
 	const uint64_t first = now.c + 32, end = now.c + now.z, word = spot.m + inside.data + 5;
 	const uint64_t at[] = {

@@ -2,6 +2,7 @@
    cc -std=c11 ../second/second.c build.c audit_sample.c -o audit_sample
    audit_sample SAMPLE [EXPLAINED [REFUSED [MANY]]]: the folders of the pairs; they must exist. */
 #include "cases.h"
+#include "pair_vendor.h"
 #include "../second/second.h"
 
 #include <inttypes.h>
@@ -63,24 +64,12 @@ static void write_file(const char *folder, const char *name, const uint8_t *byte
 		fail("a file cannot be written");
 }
 
-/* The vendor's image: 8,192 bytes, a region from 4,096 on in a file of its own, four words, one of them at the very end; no module. */
-static void build_vendor(void)
+/* The vendor's image: 8,192 bytes, the region in a file of its own; no module. */
+static void build_sample(void)
 {
-	const uint64_t place[] = { 4498, 4998, 6001, 8188 };
-	static const uint64_t value[] = { 0xFFF80040, 0x12345678, 0xFFFFFFFC, 0xFFF81FF0 };
 	start_small();
 	now.module = 0;
-	now.n = COUNT(place);
-	settle();
-	now.c = 4096;
-	now.z = 400;
-	for (uint64_t k = 0; k < now.n; k++)
-		now.entry[k] = word(place[k], k >= 2, k >= 2 ? 15 : 0);
-	build();
-	for (uint64_t k = 0; k < now.n; k++)
-		put(place[k], 4, value[k]);
-	for (uint64_t at = now.c + 8; at < now.c + now.z; at++)
-		put(at, 1, at * 37 + 11);
+	build_vendor();
 	put(4136, 2, 0x0501);
 }
 
@@ -103,7 +92,7 @@ static void ship(uint64_t base)
 /* The sample: one setting, and a word at 4,998 that was not moved, which shows in its byte at 5,000. */
 static void make_sample(void)
 {
-	build_vendor();
+	build_sample();
 	ship(0x00100000);
 	memcpy(sheet + 4998, image + 4998, 4);
 	put_sheet(4136, 1, 0);
@@ -117,14 +106,14 @@ static void make_explained(void)
 		0x28, 0x00, 0x00, 0x00, 0x02, 0x00, 0x20, 0x00, 0x8D, 0x01, 0x00, 0x00, 0x03, 0x00, 0x22, 0x00,
 		0x01, 0x00, 0xA1, 0xB2, 0xC3,
 	};
-	build_vendor();
+	build_sample();
 	ship_with(0x00345000, release, sizeof release);
 }
 
 /* Refusal 14 at index 2: the third word shares a byte with the first; both files are the same. */
 static void make_refused(void)
 {
-	build_vendor();
+	build_sample();
 	put(spot.p + 12 + 4 * 2, 4, word(4501, true, 15));
 	memcpy(sheet, image, now.length);
 	const struct second_reading r = second_read(image, now.length);
@@ -135,7 +124,7 @@ static void make_refused(void)
 /* Refusal 20: 250 settings and 50 strays. */
 static void make_many(void)
 {
-	build_vendor();
+	build_sample();
 	ship(0xFFF00000);
 	for (uint64_t i = 0; i < 250; i++)
 		put_sheet(now.c + 32 + i, 1, get_sheet(now.c + 32 + i, 1) ^ (i + 1));

@@ -15,8 +15,6 @@ uint8_t image[SPACE];
 uint8_t sheet[SPACE];
 uint64_t cases;
 
-static uint64_t state;
-
 /* ---- numbers ---- */
 
 /* The maker stops. */
@@ -24,21 +22,6 @@ void fail(const char *what)
 {
 	fprintf(stderr, "cases: %s (case %" PRIu64 ")\n", what, cases);
 	exit(1);
-}
-
-/* The fixed sequence of numbers starts anew. */
-void seed(uint64_t value)
-{
-	state = value;
-}
-
-/* The fixed sequence of numbers below a bound. */
-uint64_t below(uint64_t bound)
-{
-	state ^= state >> 12;
-	state ^= state << 25;
-	state ^= state >> 27;
-	return (state * UINT64_C(2685821657736338717) >> 16) % bound;
 }
 
 /* Sources: rounding up to a multiple of a unit. */

@@ -8,6 +8,7 @@
 #include <stdio.h>
 
 #include "../make/cover.h"
+#include "../make/drawn.h"
 #include "../make/files.h"
 #include "../make/module.h"
 
@@ -49,8 +50,6 @@ extern const char letter[5];
 extern uint64_t cases;
 
 void fail(const char *what);
-void seed(uint64_t value);
-uint64_t below(uint64_t bound);
 uint64_t round_up(uint64_t value, uint64_t unit);
 void put(uint64_t at, uint64_t width, uint64_t value);
 uint64_t get(uint64_t at, uint64_t width);

@@ -10,17 +10,7 @@
 #include "owners.h"
 #include "pajurenda.h"
 #include "refusals.h"
-
-static uint64_t state;
-
-/* A number below a bound, from the seed. */
-static uint64_t below(uint64_t bound)
-{
-	state ^= state >> 12;
-	state ^= state << 25;
-	state ^= state >> 27;
-	return (state * UINT64_C(2685821657736338717) >> 16) % bound;
-}
+#include "../make/drawn.h"
 
 /* A byte at an edge, or any. */
 static uint8_t draw_byte(void)
@@ -104,7 +94,7 @@ int main(int count, char **word)
 		return 2;
 	setvbuf(stderr, room, _IOFBF, sizeof room);
 	const struct bytes image = load_image(word[1]);
-	state = strtoull(word[2], NULL, 10) + 88172645463325252u;
+	seed(strtoull(word[2], NULL, 10) + 88172645463325252u);
 	for (unsigned long turn = strtoul(word[3], NULL, 10); turn > 0; turn--) {
 		struct named file = { "file", draw(&image) }, other = { "other", draw(&image) };
 		refuse_all(&file, &other);

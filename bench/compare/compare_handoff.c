@@ -223,35 +223,24 @@ static void make_smallest(void)
 /* At the start of a round lists of thousands of blocks, whole and cut; then drawn ones. */
 static void draw_list(uint64_t turn)
 {
-	uint64_t state = any_number();
 	switch (turn % ROUND) {
 	case 0:
-		size = handoff_many(&state, list, 65536);
+		size = handoff_many(list, 65536);
 		break;
 	case 1:
-		size = handoff_many(&state, list, LIST_ROOM);
+		size = handoff_many(list, LIST_ROOM);
 		break;
 	case 2:
-		size = handoff_many(&state, list, LIST_ROOM / 4) - 1 - (size_t)below(8);
+		size = handoff_many(list, LIST_ROOM / 4) - 1 - (size_t)below(8);
 		break;
 	case 3:
 		size = 65536;
 		make_smallest();
 		break;
 	default:
-		size = handoff_random(&state, list, drawn_room());
+		size = handoff_random(list, drawn_room());
 		break;
 	}
-}
-
-/* How often each number came, by call. */
-static void show_seen(enum call call)
-{
-	printf("%-8s", call_name[call]);
-	for (int number = 0; number <= PAJURENDA_SHORT; number++)
-		if (seen[call][number] != 0)
-			printf(" %d:%" PRIu64, number, seen[call][number]);
-	putchar('\n');
 }
 
 /* Whether each number that both calls can have came; says which did not. */
@@ -289,7 +278,7 @@ static bool had_kinds(void)
 static int conclude(uint64_t first, uint64_t count)
 {
 	for (int call = 0; call < CALLS; call++)
-		show_seen((enum call)call);
+		show_seen(call_name[call], seen[call]);
 	printf("blocks  ");
 	for (int kind = 1; kind < KINDS; kind++)
 		printf(" %s:%" PRIu64, pajurenda_kind_name((uint64_t)kind), kinds[kind]);

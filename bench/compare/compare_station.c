@@ -244,16 +244,6 @@ static bool any_state(void)
 
 /* ---- the run ---- */
 
-/* How often each number came, by call. */
-static void show_seen(enum call call)
-{
-	printf("%-8s", call_name[call]);
-	for (int number = 0; number <= PAJURENDA_SHORT; number++)
-		if (seen[call][number] != 0)
-			printf(" %d:%" PRIu64, number, seen[call][number]);
-	putchar('\n');
-}
-
 /* Whether every kind of call came in every state, in bytes that are none too; says which did not. */
 static bool had_states(void)
 {
@@ -282,7 +272,7 @@ static int conclude(uint64_t first, uint64_t count)
 {
 	const bool whole = first == 0 && count >= LONG;
 	for (int call = 0; call < CALLS; call++)
-		show_seen((enum call)call);
+		show_seen(call_name[call], seen[call]);
 	printf("states that the library reaches from reset: %zu\n", reached_count);
 	printf("logs of up to %d calls: %" PRIu64 "; bytes that are no state: %" PRIu64 ", calls in them, all refused: %" PRIu64
 	       "\n", SHORT_LOG, sequences, strange, refused_strange);

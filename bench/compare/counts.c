@@ -7,6 +7,7 @@
 
 #include "counts.h"
 #include "drawing.h"
+#include "lent.h"
 
 /* A run of so many calls must have every number. */
 #define LONG 10000
@@ -149,16 +150,6 @@ static bool can_be(enum call call, int number)
 	}
 }
 
-/* How often each number came, by call. */
-static void show_seen(enum call call)
-{
-	printf("%-8s", call_name[call]);
-	for (int number = 0; number <= PAJURENDA_SHORT; number++)
-		if (seen[call][number] != 0)
-			printf(" %d:%" PRIu64, number, seen[call][number]);
-	putchar('\n');
-}
-
 /* How often each step of a release acted; false where some way never came. */
 static bool show_released(void)
 {
@@ -244,7 +235,7 @@ int conclude(uint64_t first, uint64_t count)
 {
 	bool all = true;
 	for (int call = 0; call < CALLS; call++)
-		show_seen((enum call)call);
+		show_seen(call_name[call], seen[call]);
 	show_lengths();
 	const bool every_way = show_released(), every_list = show_owners(), every_sheet = show_sheets() && show_modules();
 	for (int call = 0; first == 0 && count >= CALLS * EDGES && call < CALLS; call++)

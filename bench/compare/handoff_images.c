@@ -2,6 +2,8 @@
 
 #include <stdbool.h>
 
+#include "../make/drawn.h"
+
 #define TYPE_HANDOFF 1
 #define TYPE_RESOURCE 3
 #define TYPE_GUID 4
@@ -226,34 +228,12 @@ void handoff_case_fill(const struct handoff_case *one, uint8_t *buffer)
 
 /* A list in the making: size bytes are written; two of its blocks' places are picked for damage. */
 struct making {
-	uint64_t *state;
 	uint8_t *buffer;
 	size_t room, size;
 	size_t blocks;
 	size_t picked[2];
 	bool long_blocks;
 };
-
-/* The next random number (splitmix64; any state is good). */
-static uint64_t draw(uint64_t *state)
-{
-	*state += UINT64_C(0x9E3779B97F4A7C15);
-	uint64_t mixed = *state;
-	mixed = (mixed ^ (mixed >> 30)) * UINT64_C(0xBF58476D1CE4E5B9);
-	mixed = (mixed ^ (mixed >> 27)) * UINT64_C(0x94D049BB133111EB);
-	return mixed ^ (mixed >> 31);
-}
-
-/* A random number below the bound, which isn't 0. */
-static uint64_t below(struct making *m, uint64_t bound)
-{
-	return draw(m->state) % bound;
-}
-
-static size_t size_below(struct making *m, size_t bound)
-{
-	return (size_t)below(m, bound);
-}
 
 /* A number at a place, little-endian, modulo what fits. */
 static void put(struct making *m, size_t at, size_t width, uint64_t value)
@@ -263,32 +243,32 @@ static void put(struct making *m, size_t at, size_t width, uint64_t value)
 }
 
 /* The types that mean something more often than the others. */
-static uint64_t likely_type(struct making *m)
+static uint64_t likely_type(void)
 {
 	static const uint64_t likely[8] = { 1, 3, 4, TYPE_END, 0, 2, 5, 0xFFFE };
-	return below(m, 8) == 0 ? below(m, 65536) : likely[below(m, 8)];
+	return below(8) == 0 ? below(65536) : likely[below(8)];
 }
 
 /* A type that means nothing. */
-static uint64_t unknown_type(struct making *m)
+static uint64_t unknown_type(void)
 {
-	const uint64_t type = likely_type(m);
+	const uint64_t type = likely_type();
 	if (type == TYPE_HANDOFF || type == TYPE_RESOURCE || type == TYPE_GUID || type == TYPE_END)
-		return 6 + below(m, 7);
+		return 6 + below(7);
 	return type;
 }
 
 /* Zeros, any bytes, or what looks like blocks to a cursor in the middle. */
 static void fill(struct making *m, size_t at, size_t count)
 {
-	const uint64_t how = below(m, 3);
+	const uint64_t how = below(3);
 	for (size_t i = 0; i < count; i++)
-		m->buffer[at + i] = how == 0 ? 0 : (uint8_t)draw(m->state);
+		m->buffer[at + i] = how == 0 ? 0 : (uint8_t)any_number();
 	if (how != 2)
 		return;
 	for (size_t i = 0; i + 8 <= count; i += 8) {
-		put(m, at + i, 2, likely_type(m));
-		put(m, at + i + 2, 2, 8 * (1 + below(m, 7)));
+		put(m, at + i, 2, likely_type());
+		put(m, at + i + 2, 2, 8 * (1 + below(7)));
 	}
 }
 
@@ -298,53 +278,53 @@ static void add(struct making *m, uint64_t type, size_t length)
 	const size_t place = m->size;
 	put(m, place, 2, type);
 	put(m, place + 2, 2, length);
-	put(m, place + 4, 4, below(m, 4) == 0 ? draw(m->state) : 0);
+	put(m, place + 4, 4, below(4) == 0 ? any_number() : 0);
 	fill(m, place + 8, length - 8);
 	m->size += length;
 	m->blocks++;
 	for (size_t i = 0; i < 2; i++)
-		if (below(m, m->blocks) == 0)
+		if (below(m->blocks) == 0)
 			m->picked[i] = place;
 }
 
 /* Whole pages of any magnitude. One draw a statement: C leaves the order within one open. */
-static uint64_t some_address(struct making *m)
+static uint64_t some_address(void)
 {
-	const uint64_t shift = below(m, 64);
-	return (draw(m->state) >> shift) / 4096 * 4096;
+	const uint64_t shift = below(64);
+	return (any_number() >> shift) / 4096 * 4096;
 }
 
 /* Mostly whole pages, and the types that memory maps are made of. */
 static void set_resource(struct making *m, size_t place)
 {
-	if (below(m, 8) == 0)
+	if (below(8) == 0)
 		return;
-	put(m, place + 24, 4, below(m, 2) == 0 ? 5 * below(m, 2) : below(m, 8));
-	put(m, place + 28, 4, below(m, 0x40000));
-	put(m, place + 32, 8, some_address(m));
-	put(m, place + 40, 8, some_address(m));
+	put(m, place + 24, 4, below(2) == 0 ? 5 * below(2) : below(8));
+	put(m, place + 28, 4, below(0x40000));
+	put(m, place + 32, 8, some_address());
+	put(m, place + 40, 8, some_address());
 }
 
 /* A good length of at least the least: mostly that, or a few words more; in some lists any. */
 static size_t some_length(struct making *m, size_t least)
 {
-	if (m->long_blocks && below(m, 16) == 0)
-		return least + 8 * size_below(m, (LONGEST - least) / 8 + 1);
-	return least + 8 * size_below(m, 1 + size_below(m, 7));
+	if (m->long_blocks && below(16) == 0)
+		return least + 8 * (size_t)below((LONGEST - least) / 8 + 1);
+	return least + 8 * (size_t)below(1 + (size_t)below(7));
 }
 
 /* Appends one of the blocks that stand in the middle; false where it and an end block don't fit. */
 static bool add_middle(struct making *m)
 {
 	static const uint64_t types[8] = { 3, 3, 3, 4, 4, 1, 0, 0 };
-	const uint64_t drawn = types[below(m, 8)];
-	const uint64_t type = drawn == 0 ? unknown_type(m) : drawn;
+	const uint64_t drawn = types[below(8)];
+	const uint64_t type = drawn == 0 ? unknown_type() : drawn;
 	size_t length = some_length(m, 8);
 	if (type == TYPE_RESOURCE)
 		length = some_length(m, 48);
 	else if (type == TYPE_GUID)
 		length = some_length(m, 24);
-	else if (type == TYPE_HANDOFF && below(m, 2) == 0)
+	else if (type == TYPE_HANDOFF && below(2) == 0)
 		length = 56;
 	if (length + 8 > m->room - m->size)
 		return false;
@@ -358,16 +338,16 @@ static bool add_middle(struct making *m)
 /* A whole list, in at least 64 bytes of room: a few blocks or, seldom, all that fit. */
 static void make_list(struct making *m)
 {
-	const uint64_t most = below(m, 16) == 0 ? UINT64_MAX : below(m, 12);
-	m->long_blocks = below(m, 8) == 0;
+	const uint64_t most = below(16) == 0 ? UINT64_MAX : below(12);
+	m->long_blocks = below(8) == 0;
 	add(m, TYPE_HANDOFF, 56);
 	for (uint64_t i = 0; i < most; i++)
 		if (!add_middle(m))
 			break;
 	add(m, TYPE_END, 8);
-	if (below(m, 3) == 0) {
+	if (below(3) == 0) {
 		const size_t left = m->room - m->size;
-		const size_t after = size_below(m, (left < 64 ? left : 64) + 1);
+		const size_t after = (size_t)below((left < 64 ? left : 64) + 1);
 		fill(m, m->size, after);
 		m->size += after;
 	}
@@ -376,9 +356,9 @@ static void make_list(struct making *m)
 /* Any bytes, often with a good start of a handoff block. */
 static void make_bytes(struct making *m)
 {
-	m->size = size_below(m, (m->room < 256 ? m->room : 256) + 1);
+	m->size = (size_t)below((m->room < 256 ? m->room : 256) + 1);
 	fill(m, 0, m->size);
-	if (m->size >= 4 && below(m, 2) == 0) {
+	if (m->size >= 4 && below(2) == 0) {
 		put(m, 0, 2, TYPE_HANDOFF);
 		put(m, 2, 2, 56);
 	}
@@ -389,10 +369,10 @@ static void make_thin(struct making *m, size_t place)
 {
 	static const uint64_t types[3] = { TYPE_RESOURCE, TYPE_GUID, TYPE_END };
 	static const uint64_t closest[3] = { 40, 16, 16 };
-	const uint64_t which = below(m, 3);
+	const uint64_t which = below(3);
 	uint64_t length = closest[which];
-	if (below(m, 4) == 0)
-		length = types[which] == TYPE_END ? 8 * (2 + below(m, 6)) : 8 * (1 + below(m, length / 8));
+	if (below(4) == 0)
+		length = types[which] == TYPE_END ? 8 * (2 + below(6)) : 8 * (1 + below(length / 8));
 	put(m, place, 2, types[which]);
 	put(m, place + 2, 2, length);
 }
@@ -401,7 +381,7 @@ static void make_thin(struct making *m, size_t place)
 static void make_past(struct making *m, size_t place)
 {
 	const uint64_t left = m->size - place;
-	const uint64_t more = below(m, 2) == 0 ? 0 : below(m, 16);
+	const uint64_t more = below(2) == 0 ? 0 : below(16);
 	const uint64_t past = (left / 8 + 1 + more) * 8;
 	put(m, place + 2, 2, past > LONGEST ? LONGEST : past);
 }
@@ -409,13 +389,13 @@ static void make_past(struct making *m, size_t place)
 /* A fault in the block at this place. */
 static void damage_block(struct making *m, size_t place)
 {
-	switch (below(m, 7)) {
+	switch (below(7)) {
 	case 0:
 	case 1:
-		put(m, place + 2, 2, below(m, 8));
+		put(m, place + 2, 2, below(8));
 		break;
 	case 2:
-		put(m, place + 2, 1, m->buffer[place + 2] / 8 * UINT64_C(8) + 1 + below(m, 7));
+		put(m, place + 2, 1, m->buffer[place + 2] / 8 * UINT64_C(8) + 1 + below(7));
 		break;
 	case 3:
 	case 4:
@@ -430,26 +410,26 @@ static void damage_block(struct making *m, size_t place)
 /* A fault in the first block: mostly 48 or 64 bytes, or another type. */
 static void damage_first(struct making *m)
 {
-	if (below(m, 2) == 0)
-		put(m, 0, 2, likely_type(m));
+	if (below(2) == 0)
+		put(m, 0, 2, likely_type());
 	else
-		put(m, 2, 2, below(m, 2) == 0 ? 48 + 16 * below(m, 2) : 8 * (1 + below(m, 12)));
+		put(m, 2, 2, below(2) == 0 ? 48 + 16 * below(2) : 8 * (1 + below(12)));
 }
 
 /* The list cut short: anywhere, or in or after the header at this place. */
 static void damage_size(struct making *m, size_t place)
 {
-	if (below(m, 2) == 0)
-		m->size = size_below(m, m->size);
+	if (below(2) == 0)
+		m->size = (size_t)below(m->size);
 	else
-		m->size = place + size_below(m, 9);
+		m->size = place + (size_t)below(9);
 }
 
 /* Any byte changed to any other. */
 static void damage_byte(struct making *m)
 {
-	const size_t at = size_below(m, m->size);
-	put(m, at, 1, UINT64_C(1) + m->buffer[at] + below(m, 255));
+	const size_t at = (size_t)below(m->size);
+	put(m, at, 1, UINT64_C(1) + m->buffer[at] + below(255));
 }
 
 /* One fault somewhere; none where an earlier one has cut the place off. */
@@ -457,7 +437,7 @@ static void damage(struct making *m, size_t place)
 {
 	if (m->size < 8 || m->size - 8 < place)
 		return;
-	const uint64_t how = below(m, 16);
+	const uint64_t how = below(16);
 	if (how < 9)
 		damage_block(m, place);
 	else if (how < 11)
@@ -468,39 +448,39 @@ static void damage(struct making *m, size_t place)
 		damage_byte(m);
 }
 
-size_t handoff_random(uint64_t *state, uint8_t *buffer, size_t room)
+size_t handoff_random(uint8_t *buffer, size_t room)
 {
-	struct making m = { .state = state, .buffer = buffer, .room = room };
-	if (below(&m, 64) == 0)
+	struct making m = { .buffer = buffer, .room = room };
+	if (below(64) == 0)
 		return 0;
-	if (room < 64 || below(&m, 32) == 0) {
+	if (room < 64 || below(32) == 0) {
 		make_bytes(&m);
 		return m.size;
 	}
 	make_list(&m);
-	if (below(&m, 3) == 0) {
+	if (below(3) == 0) {
 		damage(&m, m.picked[0]);
-		if (below(&m, 4) == 0)
+		if (below(4) == 0)
 			damage(&m, m.picked[1]);
 	}
 	return m.size;
 }
 
 /* Lengths of 8 to 56 in equal parts; a resource or a GUID block where the length allows it. */
-size_t handoff_many(uint64_t *state, uint8_t *buffer, size_t room)
+size_t handoff_many(uint8_t *buffer, size_t room)
 {
-	struct making m = { .state = state, .buffer = buffer, .room = room };
+	struct making m = { .buffer = buffer, .room = room };
 	add(&m, TYPE_HANDOFF, 56);
 	while (m.room - m.size >= 16) {
 		const size_t left = (m.room - m.size - 8) / 8;
-		const size_t length = 8 * (1 + size_below(&m, left < 7 ? left : 7));
-		const bool known = below(&m, 2) == 0;
+		const size_t length = 8 * (1 + (size_t)below(left < 7 ? left : 7));
+		const bool known = below(2) == 0;
 		if (known && length >= 48)
 			add(&m, TYPE_RESOURCE, length);
 		else if (known && length >= 24)
 			add(&m, TYPE_GUID, length);
 		else
-			add(&m, unknown_type(&m), length);
+			add(&m, unknown_type(), length);
 	}
 	add(&m, TYPE_END, 8);
 	return m.size;

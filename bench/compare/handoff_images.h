@@ -35,9 +35,9 @@ extern const size_t handoff_cases_count;
 void handoff_case_fill(const struct handoff_case *one, uint8_t *buffer);
 
 /* A random buffer in the room: mostly a whole list, else a damaged one. Hands back its size. */
-size_t handoff_random(uint64_t *state, uint8_t *buffer, size_t room);
+size_t handoff_random(uint8_t *buffer, size_t room);
 
 /* A whole list of blocks of 8 to 56 bytes that fills the room of 64 bytes or more, but for 7 at most. */
-size_t handoff_many(uint64_t *state, uint8_t *buffer, size_t room);
+size_t handoff_many(uint8_t *buffer, size_t room);
 
 #endif

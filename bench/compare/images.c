@@ -6,31 +6,12 @@
 #include "fields.h"
 #include "../make/files.h"
 
-static uint64_t state = 1;
-
-/* The sequence starts anew; a state of 0 would stay 0. */
-void numbers_from(uint64_t seed)
+/* The sequence from a start that is near others: its first numbers, still alike, are passed. */
+void numbers_from(uint64_t start)
 {
-	state = seed * UINT64_C(0x9E3779B97F4A7C15) ^ UINT64_C(0xD1B54A32D192ED03);
-	if (state == 0)
-		state = 1;
+	seed(start * UINT64_C(0x9E3779B97F4A7C15) ^ UINT64_C(0xD1B54A32D192ED03));
 	for (int i = 0; i < 4; i++)
 		(void)any_number();
-}
-
-/* One number of 64 bits. */
-uint64_t any_number(void)
-{
-	state ^= state >> 12;
-	state ^= state << 25;
-	state ^= state >> 27;
-	return state * UINT64_C(2685821657736338717);
-}
-
-/* One number below a bound. */
-uint64_t below(uint64_t bound)
-{
-	return (any_number() >> 8) % bound;
 }
 
 /* Bytes of the sequence; what is longer than 4 KiB repeats them. */

@@ -6,6 +6,7 @@
 
 #include "inside.h"
 #include "../make/cover.h"
+#include "../make/drawn.h"
 
 #define MOST_ENTRIES 1024
 
@@ -29,10 +30,8 @@ struct plan {
 	struct inside inside;
 };
 
-/* The sequence of numbers: its start, one number, one below a bound. */
-void numbers_from(uint64_t seed);
-uint64_t any_number(void);
-uint64_t below(uint64_t bound);
+/* The sequence of numbers from a start, which may be any. */
+void numbers_from(uint64_t start);
 
 /* Bytes of the sequence; long parts repeat a block. */
 void fill_bytes(uint8_t *at, uint64_t length);

@@ -1,8 +1,10 @@
 /* The modules of a drawn image. */
 #include "inside.h"
 
-#include "images.h"
+#include "../make/drawn.h"
 #include "../make/files.h"
+
+#define TWO32 UINT64_C(0x100000000)
 
 /* The numbers of the headers; six directories or more, seldom fewer, and then no relocations. */
 static void draw_head(struct module *m)

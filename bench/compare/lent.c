@@ -3,6 +3,7 @@
 
 #include "lent.h"
 
+#include <inttypes.h>
 #include <signal.h>
 #include <stdio.h>
 #include <stdlib.h>
@@ -10,7 +11,8 @@
 #include <sys/mman.h>
 #include <unistd.h>
 
-#include "images.h"
+#include "pajurenda.h"
+#include "../make/drawn.h"
 
 #define GUARD ((size_t)64)
 #define EDGE ((size_t)65536)
@@ -100,6 +102,16 @@ void watch_faults(void)
 	static const int faults[] = { SIGSEGV, SIGBUS, SIGILL, SIGFPE, SIGABRT, SIGTRAP };
 	for (size_t i = 0; i < sizeof faults / sizeof faults[0]; i++)
 		signal(faults[i], on_fault);
+}
+
+/* How often each number came that a call gave. */
+void show_seen(const char *call, const uint64_t *seen)
+{
+	printf("%-8s", call);
+	for (int number = 0; number <= PAJURENDA_SHORT; number++)
+		if (seen[number] != 0)
+			printf(" %d:%" PRIu64, number, seen[number]);
+	putchar('\n');
 }
 
 /* Digits alone. */

@@ -32,6 +32,9 @@ bool same_lent(const struct lent *lent, const char *name, const uint8_t *wanted)
 /* From here on a touch outside a lent buffer, or any sudden end of a call, is told with its whereabouts. */
 void watch_faults(void);
 
+/* How often each number came that a call gave. */
+void show_seen(const char *call, const uint64_t *seen);
+
 /* A decimal number of the command line, or the end. */
 uint64_t number_of(const char *text);
 

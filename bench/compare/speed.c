@@ -9,6 +9,7 @@
 
 #include "handoff_images.h"
 #include "images.h"
+#include "tables.h"
 #include "timing.h"
 #include "../second/handoff.h"
 #include "../second/second.h"
@@ -18,34 +19,18 @@
 #define FIELDS_MOST 256
 #define RANGES 64
 
+const char table_name[] = "speed";
+
 static struct plan plan;
-static uint8_t *image, *shipped, *places;
+static uint8_t *places;
 static uint32_t *list;
-static size_t size, places_count;
+static size_t places_count;
 static uint64_t entries;
 static uint8_t sheet[EMPTY_SHEET + 10 * FIELDS_SET], empty[EMPTY_SHEET];
 static uint8_t large[EMPTY_SHEET + 9 * FIELDS_MOST];
 static uint8_t whole[8], pieces[8 * RANGES];
-static uint8_t answer[PAJURENDA_READ_BYTES];
-static volatile uint64_t refused, different;
+static volatile uint64_t different;
 static int (*const volatile whole_compare)(const void *, const void *, size_t) = memcmp;
-
-/* Two bases in turn, whoever moves, so that every move moves. */
-static uint64_t next_base(void)
-{
-	static uint64_t turn;
-	return turn++ % 2 == 0 ? 0x00100000 : 0x80000000;
-}
-
-static void library_read(void)
-{
-	refused += pajurenda_read(image, size, answer, sizeof answer);
-}
-
-static void plain_read(void)
-{
-	refused += second_read(image, size).number;
-}
 
 /* The base that the image is at. */
 static uint64_t present_base(void)
@@ -146,10 +131,7 @@ static void row(const char *name, work *library, work *plain, work *third)
 	work *const calls[3] = { library, plain, third };
 	double best[3] = { 0 };
 	const unsigned runs = best_of(calls, best, third == NULL ? 2 : 3);
-	if (refused != 0) {
-		fprintf(stderr, "speed: %s was refused\n", name);
-		exit(2);
-	}
+	want_accepted(name);
 	printf("| %s | %zu | %" PRIu64 " |", name, size / 1024, entries);
 	show_time(best[0]);
 	show_time(best[1]);
@@ -225,10 +207,8 @@ static void make_image(size_t length, uint64_t n)
 	make_sheet();
 	make_large();
 	make_owners();
-	if (size != length || second_read(image, size).number != 0) {
-		fputs("speed: the image is not as planned\n", stderr);
-		exit(2);
-	}
+	if (size != length || second_read(image, size).number != 0)
+		stop("the image is not as planned");
 }
 
 /* An accepted image with a header of h bytes and no entries. */
@@ -243,23 +223,19 @@ static void make_headed(uint64_t h)
 	size = (size_t)plan.length;
 	fill_bytes(image, plan.length);
 	build(&plan, image);
-	if (second_read(image, size).number != 0) {
-		fputs("speed: the image with a long header is not as planned\n", stderr);
-		exit(2);
-	}
+	if (second_read(image, size).number != 0)
+		stop("the image with a long header is not as planned");
 }
 
 /* A list of 64 KiB of blocks of 8 to 56 bytes. */
 static void make_list(void)
 {
-	uint64_t state = 101;
-	size = handoff_many(&state, image, 65536);
+	seed(101);
+	size = handoff_many(image, 65536);
 	const struct second_list list_read = second_handoffs(image, size);
 	entries = list_read.count;
-	if (size != 65536 || list_read.number != 0) {
-		fputs("speed: the list is not as planned\n", stderr);
-		exit(2);
-	}
+	if (size != 65536 || list_read.number != 0)
+		stop("the list is not as planned");
 }
 
 /* The shipped image the same; or moved, with every 16th byte after the tables another. */
@@ -273,17 +249,6 @@ static void make_shipped(bool many)
 	}
 	const struct second_audited a = second_audit(image, size, shipped, size, list, 0);
 	places_count = (size_t)(a.settings + a.strays);
-}
-
-/* Memory or the end. */
-static void *memory(size_t bytes)
-{
-	void *got = calloc(1, bytes);
-	if (got == NULL) {
-		fputs("speed: no memory\n", stderr);
-		exit(2);
-	}
-	return got;
 }
 
 /* All rows of one length and one n. */
@@ -305,10 +270,10 @@ int main(void)
 {
 	static const size_t lengths[] = { 65536, 1048576, 16777216 };
 	static const uint64_t counts[] = { 0, 16, 1024 };
-	image = memory(TWO24);
-	shipped = memory(TWO24);
-	places = memory(4 * TWO24);
-	list = memory(4 * TWO24);
+	image = zeros(TWO24);
+	shipped = zeros(TWO24);
+	places = zeros(4 * TWO24);
+	list = zeros(4 * TWO24);
 	puts("| call | KiB | n | library | plain C | ratio | memcmp | ratio | runs |");
 	puts("|---|---|---|---|---|---|---|---|---|");
 	for (size_t i = 0; i < 3; i++)

@@ -10,6 +10,7 @@
 #include <string.h>
 #include <time.h>
 
+#include "tables.h"
 #include "timing.h"
 #include "../make/large.h"
 #include "../second/rival.h"
@@ -19,30 +20,11 @@
 #define MODULES 64
 #define WORDS 30000
 
+const char table_name[] = "speed_modules";
+
 static struct large large;
-static uint8_t *image, *shipped;
 static uint32_t *list;
-static size_t size;
 static uint8_t empty[SHEET_BYTES], none[1];
-static uint8_t answer[PAJURENDA_READ_BYTES];
-static volatile uint64_t refused;
-
-/* Two bases in turn, whoever moves, so that every move moves. */
-static uint64_t next_base(void)
-{
-	static uint64_t turn;
-	return turn++ % 2 == 0 ? 0x00100000 : 0x80000000;
-}
-
-static void library_read(void)
-{
-	refused += pajurenda_read(image, size, answer, sizeof answer);
-}
-
-static void plain_read(void)
-{
-	refused += second_read(image, size).number;
-}
 
 static void rivals_read(void)
 {
@@ -96,17 +78,6 @@ static void shortest_audit(void)
 
 /* ---- inputs ---- */
 
-/* Memory or the end. */
-static void *memory(size_t bytes)
-{
-	void *got = calloc(1, bytes);
-	if (got == NULL) {
-		fputs("speed_modules: no memory\n", stderr);
-		exit(2);
-	}
-	return got;
-}
-
 /* An empty sheet for the image. */
 static void make_sheet(void)
 {
@@ -120,10 +91,8 @@ static void make_sheet(void)
 static void make_shipped(bool moved)
 {
 	memcpy(shipped, image, size);
-	if (moved && rival_move(shipped, size, 0x00345000).number != 0) {
-		fputs("speed_modules: the image can't be moved\n", stderr);
-		exit(2);
-	}
+	if (moved && rival_move(shipped, size, 0x00345000).number != 0)
+		stop("the image can't be moved");
 }
 
 /* ---- the rows ---- */
@@ -140,10 +109,7 @@ static void row(const char *name, bool shuffled, work *const calls[4])
 {
 	double best[4] = { 0 };
 	const unsigned runs = best_of(calls, best, 4);
-	if (refused != 0) {
-		fprintf(stderr, "speed_modules: %s was refused\n", name);
-		exit(2);
-	}
+	want_accepted(name);
 	printf("| %s | %s | %" PRIu64 " |", name, shuffled ? "no order" : "ascending", large.patches);
 	show_time(best[0]);
 	for (unsigned i = 1; i < 4; i++)
@@ -159,10 +125,8 @@ static void rows(uint64_t patches, bool shuffled)
 	plan_large(&large, size, patches);
 	large_modules(&large, image, MODULES, WORDS, shuffled);
 	make_sheet();
-	if (second_words(image, size, NULL, 0) != 1 + patches + MODULES + WORDS) {
-		fputs("speed_modules: the image is not as planned\n", stderr);
-		exit(2);
-	}
+	if (second_words(image, size, NULL, 0) != 1 + patches + MODULES + WORDS)
+		stop("the image is not as planned");
 	row("read", shuffled, (work *const[]){ library_read, plain_read, rivals_read, shortest_read });
 	row("release, move", shuffled, (work *const[]){ library_move, plain_move, rivals_move, shortest_move });
 	make_shipped(false);
@@ -196,10 +160,7 @@ static void worst(const struct hostile *one, uint64_t patches)
 	else
 		printf(" |\n");
 	fflush(stdout);
-	if (refused != 0) {
-		fprintf(stderr, "speed_modules: %s was refused\n", one->name);
-		exit(2);
-	}
+	want_accepted(one->name);
 }
 
 /* The worst images of one cost, without patch words and with as many as can be. */
@@ -217,9 +178,9 @@ static void worst_of(enum cost cost)
 
 int main(int count, char **word)
 {
-	image = memory(LARGE_MOST);
-	shipped = memory(LARGE_MOST);
-	list = memory(16);
+	image = zeros(LARGE_MOST);
+	shipped = zeros(LARGE_MOST);
+	list = zeros(16);
 	if (count == 2 && strcmp(word[1], "long") == 0) {
 		worst_of(COST_LONG);
 		return 0;

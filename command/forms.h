@@ -1,0 +1,11 @@
+/* The forms that a check is told in: by lines, or as a document. */
+#ifndef COMMAND_FORMS_H
+#define COMMAND_FORMS_H
+
+#include "checked.h"
+
+enum status show_audit(const struct check *check, unsigned options);
+enum status show_verify(const struct check *check);
+enum status write_check(const struct check *check);
+
+#endif
