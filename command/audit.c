@@ -6,14 +6,30 @@
 
 #include "ranges.h"
 
-/* One line for each difference until one can't be written. */
-static void show_list(const struct findings *found)
+/* The name that has a setting's byte, where there are names. */
+static void show_name_at(const struct check *check, uint32_t place)
 {
-	const uint64_t count = differences(found);
+	const struct names *names = names_of(&check->naming);
+	const uint64_t region = pajurenda_field(check->reading, PAJURENDA_READ_REGION);
+	if (names == NULL || pajurenda_is_stray(place))
+		return;
+	const struct label *label = names_at(names, (uint32_t)(pajurenda_position(place) - region));
+	putchar(' ');
+	if (label == NULL)
+		fputs("no name", stdout);
+	else
+		names_put_label(stdout, label);
+}
+
+/* One line for each difference until one can't be written. */
+static void show_list(const struct check *check)
+{
+	const uint64_t count = differences(&check->found);
 	for (uint64_t i = 0; i < count && ferror(stdout) == 0; i++) {
-		const uint32_t place = pajurenda_place(found->places, (size_t)i);
-		printf("%c %" PRIu32 "\n", pajurenda_is_stray(place) ? 'X' : 'S',
-		       pajurenda_position(place));
+		const uint32_t place = pajurenda_place(check->found.places, (size_t)i);
+		printf("%c %" PRIu32, pajurenda_is_stray(place) ? 'X' : 'S', pajurenda_position(place));
+		show_name_at(check, place);
+		putchar('\n');
 	}
 }
 
@@ -28,6 +44,7 @@ static void show_bytes(const struct check *check)
 		printf("%c %" PRIu32, pajurenda_is_stray(place) ? 'X' : 'S', at);
 		if (at < wanted->length && at < found->length)
 			printf(" %02X %02X", (unsigned)wanted->at[at], (unsigned)found->at[at]);
+		show_name_at(check, place);
 		putchar('\n');
 	}
 }
@@ -40,6 +57,7 @@ static void show_ranges(const struct check *check)
 	start_ranges(&ranges, check);
 	while (ferror(stdout) == 0 && next_range(&ranges, &range)) {
 		put_place(stdout, &ranges, &range);
+		put_range_names(stdout, &ranges, &range, " -> ");
 		putchar('\n');
 	}
 }
@@ -52,17 +70,21 @@ static void show_differences(const struct check *check, unsigned options)
 	else if ((options & BYTES) != 0)
 		show_bytes(check);
 	else
-		show_list(&check->found);
+		show_list(check);
 }
 
 /* The whole output of an accepted audit. */
 enum status show_audit(const struct check *check, unsigned options)
 {
+	put_naming(stdout, "", &check->naming);
 	printf("base 0x%08" PRIX64 "\n", count_of(check, PAJURENDA_AUDIT_BASE));
 	printf("settings %" PRIu64 "\n", count_of(check, PAJURENDA_AUDIT_SETTINGS));
 	printf("strays %" PRIu64 "\n", count_of(check, PAJURENDA_AUDIT_STRAYS));
 	printf("bits %" PRIu64 "\n", count_of(check, PAJURENDA_AUDIT_BITS));
 	show_differences(check, options);
-	printf("verdict %s\n", verdict_of(check));
-	return is_good(check) ? FINE : UNEXPLAINED;
+	show_must(&check->must);
+	show_verdict(check);
+	if (is_unchecked(check))
+		printf("not checked %s\n", not_checked);
+	return status_of(check);
 }

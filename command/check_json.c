@@ -5,6 +5,7 @@
 #include <stdio.h>
 
 #include "json.h"
+#include "json_names.h"
 #include "letters.h"
 #include "ranges.h"
 #include "show.h"
@@ -52,6 +53,7 @@ static void write_lying(const struct ranges *ranges, const struct lying *where)
 static void write_range(const struct ranges *ranges, const struct range *range, const char *before)
 {
 	const struct check *check = ranges->check;
+	struct change change;
 	printf("%s\n    {\"kind\": \"%s\", \"first\": %" PRIu64 ", \"last\": %" PRIu64, before,
 	       range->stray ? "stray" : "setting", range->first, range->last);
 	printf(", \"length\": %" PRIu64 ", \"place\": \"%s\", \"offset\": ", length_of(range),
@@ -65,6 +67,10 @@ static void write_range(const struct ranges *ranges, const struct range *range, 
 	write_bytes("is", &check->shipped.bytes, range);
 	if (check->verify)
 		write_setter(range);
+	if (range_change(ranges, range, &change))
+		json_names(names_of(&check->naming), &change, "should", "is");
+	else
+		fputs(", \"names\": null", stdout);
 	putchar('}');
 }
 
@@ -108,9 +114,54 @@ static void write_owner(const struct check *check)
 		json_text("owner", NULL);
 }
 
+/* One thing that must be, with what is, and what the maker's image has. */
+static void write_need(const struct need *need, const char *before)
+{
+	const struct change *change = &need->change;
+	printf("%s\n      {\"line\": %zu, \"offset\": %" PRIu64 ", \"place\": %" PRIu64 ", \"length\": %zu"
+	       ", \"name\": ", before, need->line, change->offset, change->place, change->length);
+	if (need->label == NULL)
+		fputs("null", stdout);
+	else
+		put_json_text(stdout, need->label->name);
+	fputs(", \"must\": ", stdout);
+	json_bytes(need->bytes, change->length);
+	fputs(", \"is\": ", stdout);
+	if (need->is == NULL)
+		fputs("null", stdout);
+	else
+		json_bytes(need->is, change->length);
+	fputs(", \"makers\": ", stdout);
+	json_bytes(change->old, change->length);
+	printf(", \"held\": %s}", need->held ? "true" : "false");
+}
+
+/* What must be; null where nothing was asked for. */
+static void write_must(const struct must *must)
+{
+	fputs(",\n  \"must\": ", stdout);
+	if (must->file.name == NULL) {
+		fputs("null", stdout);
+		return;
+	}
+	fputs("{\"file\": ", stdout);
+	put_json_text(stdout, must->file.name);
+	fputs(", \"base\": {\"must\": ", stdout);
+	if (must->any_base)
+		fputs("null", stdout);
+	else
+		printf("\"0x%08" PRIX64 "\"", must->base);
+	printf(", \"is\": \"0x%08" PRIX64 "\", \"makers\": \"0x%08" PRIX64 "\", \"held\": %s}, \"settings\": [",
+	       must->is_base, must->makers_base, is_base_held(must) ? "true" : "false");
+	for (size_t i = 0; i < must->count && ferror(stdout) == 0; i++)
+		write_need(&must->need[i], i == 0 ? "" : ",");
+	fputs(must->count == 0 ? "]}" : "\n    ]}", stdout);
+}
+
 /* What an accepted check found. */
 static void write_found(const struct check *check)
 {
+	json_naming(&check->naming);
 	json_hex("base", 8, count_of(check, PAJURENDA_AUDIT_BASE));
 	printf(",\n  \"move\": %" PRId64,
 	       pajurenda_signed_field(check->moved, PAJURENDA_RELEASE_MOVE));
@@ -118,6 +169,7 @@ static void write_found(const struct check *check)
 	json_number("strays", count_of(check, PAJURENDA_AUDIT_STRAYS));
 	json_number("bits", count_of(check, PAJURENDA_AUDIT_BITS));
 	write_ranges(check);
+	write_must(&check->must);
 }
 
 /* The whole document, of a refused check too. */
@@ -136,7 +188,9 @@ enum status write_check(const struct check *check)
 		json_text("refused", check->refused->name);
 	else
 		write_found(check);
+	json_text("required", required_of(check));
+	json_text("not_checked", is_unchecked(check) ? not_checked : NULL);
 	json_text("verdict", verdict_of(check));
 	end_json();
-	return refused ? FAILED : is_good(check) ? FINE : UNEXPLAINED;
+	return status_of(check);
 }

@@ -66,7 +66,7 @@ static bool load_list(struct check *check, const struct options *options)
 /* VENDOR SHIPPED, or VENDOR SHEET.. SHIPPED, in memory; false after a message. */
 bool load_check(struct check *check, bool verify, char **word, const struct options *options)
 {
-	*check = (struct check){ .verify = verify };
+	*check = (struct check){ .verify = verify, .options = options };
 	if (!name_files(check, word)) {
 		fail_no_memory(word[0]);
 		return false;
@@ -81,6 +81,8 @@ void end_check(struct check *check)
 	for (size_t i = 0; i < check->sheet_count; i++)
 		free(check->sheets[i].bytes.at);
 	free(check->sheets);
+	end_must(&check->must);
+	end_naming(&check->naming);
 	free_owners(&check->owners);
 	free(check->list.bytes.at);
 	free(check->vendor.bytes.at);
@@ -210,6 +212,14 @@ static enum status judge_verify(struct check *check)
 	return status;
 }
 
+/* The names and what must be, of a vendor's image that reads; false after a message. */
+static bool load_beside(struct check *check)
+{
+	return load_naming(check->options, &check->vendor, check->reading, &check->naming) &&
+	       load_must(check->options->must, &check->vendor, check->reading, &check->naming,
+			 &check->must);
+}
+
 /* The library's answer on all of it; FAILED after a refusal, which is noted, or an error. */
 enum status judge(struct check *check)
 {
@@ -222,7 +232,11 @@ enum status judge(struct check *check)
 		return FAILED;
 	if (!copy_bytes(vendor, &check->reference))
 		return fail_no_memory(check->vendor.name);
-	return check->verify ? judge_verify(check) : judge_audit(check);
+	if (!load_beside(check) ||
+	    (check->verify ? judge_verify(check) : judge_audit(check)) != FINE)
+		return FAILED;
+	hold_must(&check->must, &check->shipped.bytes, count_of(check, PAJURENDA_AUDIT_BASE));
+	return FINE;
 }
 
 /* ---- what came of it ---- */
@@ -240,6 +254,37 @@ bool is_good(const struct check *check)
 		return false;
 	return check->verify ? differences(&check->found) == 0
 			     : count_of(check, PAJURENDA_AUDIT_EXPLAINED) == 1;
+}
+
+/* Good, and everything is there that must be. */
+bool is_fine(const struct check *check)
+{
+	return is_good(check) && is_held(&check->must);
+}
+
+/* Explained alone: whether the settings are the wanted ones nobody has asked. */
+bool is_unchecked(const struct check *check)
+{
+	return !check->verify && is_good(check) && check->must.file.name == NULL;
+}
+
+const char not_checked[] = "whether the settings are the wanted ones; verify VENDOR SHEET.. SHIPPED says it by "
+			   "the sheets, --must FILE by a text";
+
+/* The status of a check that was judged. */
+enum status status_of(const struct check *check)
+{
+	if (check->number != PAJURENDA_ACCEPTED)
+		return FAILED;
+	return is_fine(check) ? FINE : UNEXPLAINED;
+}
+
+/* What must be is there or not; NULL where nothing was asked for. */
+const char *required_of(const struct check *check)
+{
+	if (check->must.file.name == NULL || check->number != PAJURENDA_ACCEPTED)
+		return NULL;
+	return is_held(&check->must) ? "as required" : "not as required";
 }
 
 /* The verdict in words. */

@@ -7,6 +7,8 @@
 
 #include "contents.h"
 #include "findings.h"
+#include "must.h"
+#include "naming.h"
 #include "owners.h"
 #include "refusals.h"
 
@@ -26,6 +28,9 @@ struct check {
 	struct named list;    /* the owner list's file; no name where the owners have no say */
 	struct owners owners; /* that list, and who releases by it */
 	uint64_t owner;
+	const struct options *options;
+	struct naming naming; /* the maker's names, where they are asked for */
+	struct must must;     /* what the shipped file must have, where that is asked for */
 	uint32_t number; /* 0 where accepted, or the refusal's, with its index and file */
 	uint64_t index;
 	const struct named *refused;
@@ -40,8 +45,13 @@ struct check {
 bool load_check(struct check *check, bool verify, char **word, const struct options *options);
 enum status judge(struct check *check);
 bool is_good(const struct check *check);
+bool is_fine(const struct check *check);
+bool is_unchecked(const struct check *check);
+enum status status_of(const struct check *check);
 uint64_t count_of(const struct check *check, size_t field);
 const char *verdict_of(const struct check *check);
+const char *required_of(const struct check *check);
+extern const char not_checked[]; /* and how to check it */
 void end_check(struct check *check);
 
 /* The file's own parts, for judge. */

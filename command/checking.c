@@ -31,6 +31,10 @@ bool is_apart(const struct check *check, const char *out)
 			input = "a SHEET";
 	if (check->list.name != NULL && is_same_file(check->list.name, out))
 		input = "LIST";
+	if (check->options->names != NULL && is_same_file(check->options->names, out))
+		input = "the file of names";
+	if (check->options->must != NULL && is_same_file(check->options->must, out))
+		input = "the file of what must be";
 	if (is_same_file(check->vendor.name, out))
 		input = "VENDOR";
 	if (is_same_file(check->shipped.name, out))

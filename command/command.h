@@ -11,7 +11,8 @@ enum status { FINE = 0, UNEXPLAINED = 1, FAILED = 2 };
 /* The options, as bits. */
 enum option {
 	HELP = 1, VERSION = 2, BYTES = 4, RANGES = 8, WORDS = 16, JSON = 32, OWNERS = 64, OWNER = 128,
-	REPORT = 256, TEXT = 512, LIST = 1024, REPORTS = 2048, MODULES = 4096
+	REPORT = 256, TEXT = 512, LIST = 1024, REPORTS = 2048, MODULES = 4096, NAMES = 8192,
+	STRICT = 16384, MUST = 32768
 };
 
 /* The options of a command line, and the values of those that have one; NULL where it isn't given. */
@@ -19,6 +20,7 @@ struct options {
 	unsigned given;
 	const char *owners, *owner;
 	const char *report, *text, *list, *reports;
+	const char *names, *must;
 };
 
 /* A file's bytes in memory; never at NULL once loaded, even where empty. */
@@ -43,8 +45,10 @@ struct command {
 enum status do_read(char **word, const struct options *options);
 enum status do_release(char **word, const struct options *options);
 enum status do_sheet_empty(char **word, const struct options *options);
+enum status do_sheet_start(char **word, const struct options *options);
 enum status do_sheet_make(char **word, const struct options *options);
 enum status do_sheet_show(char **word, const struct options *options);
+enum status do_must_show(char **word, const struct options *options);
 enum status do_owners_all(char **word, const struct options *options);
 enum status do_owners_show(char **word, const struct options *options);
 enum status do_setting(char **word, const struct options *options);

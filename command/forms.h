@@ -4,6 +4,7 @@
 
 #include "checked.h"
 
+void show_verdict(const struct check *check);
 enum status show_audit(const struct check *check, unsigned options);
 enum status show_verify(const struct check *check);
 enum status write_check(const struct check *check);

@@ -25,27 +25,33 @@ static const struct command commands[] = {
 	  "writes the image with a sheet's settings, moved to a base", release_help },
 	{ "sheet empty", { "IMAGE", "OUT" }, 0, do_sheet_empty, "IMAGE OUT", NULL,
 	  "writes the sheet that sets nothing", sheet_help },
-	{ "sheet make", { "IMAGE", "TEXT", "OUT" }, 0, do_sheet_make, "IMAGE TEXT OUT", NULL,
-	  "writes the sheet that a text describes", sheet_help },
-	{ "sheet show", { "SHEET", "[IMAGE]" }, JSON, do_sheet_show, "[--json] SHEET [IMAGE]", NULL,
-	  "shows a sheet as such a text", sheet_help },
+	{ "sheet start", { "IMAGE", "TEXT" }, NAMES | STRICT, do_sheet_start, "[--names FILE] IMAGE TEXT",
+	  NULL, "begins a text for an image, with names every setting", sheet_help },
+	{ "sheet make", { "IMAGE", "TEXT", "OUT" }, NAMES | STRICT, do_sheet_make,
+	  "[--names FILE] IMAGE TEXT OUT", NULL, "writes the sheet that a text describes", sheet_help },
+	{ "sheet show", { "SHEET", "[IMAGE]" }, JSON | NAMES | STRICT, do_sheet_show,
+	  "[--json] [--names FILE] SHEET [IMAGE]", NULL, "shows a sheet as such a text", sheet_help },
+	{ "must show", { "FILE", "IMAGE" }, NAMES | STRICT, do_must_show, "[--names FILE] FILE IMAGE", NULL,
+	  "explains what a shipped file must have, for --must", must_help },
 	{ "owners all", { "IMAGE", "OUT" }, 0, do_owners_all, "IMAGE OUT", NULL,
 	  "writes the list that gives every setting to owner 1", owners_help },
-	{ "owners show", { "LIST", "IMAGE" }, 0, do_owners_show, "LIST IMAGE", NULL,
+	{ "owners show", { "LIST", "IMAGE" }, NAMES | STRICT, do_owners_show, "[--names FILE] LIST IMAGE", NULL,
 	  "shows an owner list beside an image's region", owners_help },
-	{ "setting", { "IMAGE", "OFFSET", "LENGTH" }, 0, do_setting, "IMAGE OFFSET LENGTH", NULL,
+	{ "setting", { "IMAGE", "OFFSET", "[LENGTH]" }, NAMES | STRICT, do_setting,
+	  "[--names FILE] IMAGE OFFSET LENGTH", "--names FILE IMAGE NAME",
 	  "shows one setting", setting_help },
-	{ "audit", { "VENDOR", "SHIPPED" }, BYTES | RANGES | JSON | REPORT | TEXT | LIST | REPORTS,
-	  do_audit, "[--bytes | --ranges | --json] [--report FILE] [--text FILE]\n"
-		    "                       VENDOR SHIPPED",
-	  "--list FILE [--reports FOLDER]",
+	{ "audit", { "VENDOR", "SHIPPED" },
+	  BYTES | RANGES | JSON | REPORT | TEXT | LIST | REPORTS | NAMES | STRICT | MUST, do_audit,
+	  "[--bytes | --ranges | --json] [--report FILE] [--text FILE]\n"
+	  "                       [--names FILE] [--must FILE] VENDOR SHIPPED",
+	  "[--must FILE] --list FILE [--reports FOLDER]",
 	  "lists every difference of a shipped file, and says whether all are settings",
 	  audit_help },
 	{ "verify", { "VENDOR", "SHEET..", "SHIPPED" },
-	  JSON | REPORT | TEXT | LIST | REPORTS | OWNERS | OWNER, do_verify,
+	  JSON | REPORT | TEXT | LIST | REPORTS | OWNERS | OWNER | NAMES | STRICT | MUST, do_verify,
 	  "[--owners LIST --owner N] [--json] [--report FILE] [--text FILE]\n"
-	  "                        VENDOR SHEET.. SHIPPED",
-	  "[--owners LIST --owner N] --list FILE [--reports FOLDER]",
+	  "                        [--names FILE] [--must FILE] VENDOR SHEET.. SHIPPED",
+	  "[--owners LIST --owner N] [--must FILE] --list FILE [--reports FOLDER]",
 	  "says whether a shipped file is what releasing with these sheets makes", verify_help },
 	{ "handoff", { "DUMP" }, JSON, do_handoff, "[--json] DUMP", NULL,
 	  "shows the hand-off blocks that firmware left", handoff_help },
@@ -57,7 +63,8 @@ static const struct command commands[] = {
 
 /* The first words of the commands that have two. */
 static const struct group groups[] = {
-	{ "sheet", "empty, make or show is missing", "\" is none of empty, make and show" },
+	{ "sheet", "empty, start, make or show is missing", "\" is none of empty, start, make and show" },
+	{ "must", "show is missing", "\" is not show" },
 	{ "owners", "all or show is missing", "\" is neither all nor show" },
 };
 
@@ -192,6 +199,8 @@ enum status show_help(const struct command *command)
 		fputs(out_help, stdout);
 	if (command->help == sheet_help || command->help == owners_help)
 		fputs(made_out_help, stdout);
+	if ((command->options & NAMES) != 0 || command->help == sheet_help || command->help == owners_help)
+		fputs(names_help, stdout);
 	if (command->run == do_audit || command->run == do_verify)
 		printf("%s%s", check_help,
 		       command->run == do_audit ? audit_status_help : verify_status_help);

@@ -27,7 +27,8 @@ const char release_help[] =
 	"Writes to OUT the image IMAGE with the settings of the release sheet SHEET, moved to BASE,\n"
 	"in one step: OUT has both or is as it was. A move changes the base word, the patch words and\n"
 	"the words of the modules, as `read --words` lists them; no check sum is mended. Shows the\n"
-	"base, by how much the image moved, and how many entries the sheet has. The sheet must be for\n"
+	"base, by how much the image moved, how many entries the sheet has, and each, old -> new, or that\n"
+	"it changes nothing. The sheet must be for\n"
 	"IMAGE's identity, revision and extended number, as `read` shows them; all of it, and the base,\n"
 	"is judged before a byte is changed. A sheet has the extended number in its bytes 14 and 15,\n"
 	"the low byte first. An older sheet has 0 there: it is for images whose extended number is 0.\n"
@@ -37,34 +38,67 @@ const char release_help[] =
 	"               writes the LIST that gives every setting to owner 1.\n"
 	"--owner N      who releases, 1 or 2: SHEET may set the bytes of N's ranges and no others.\n"
 	"\n"
-	"BASE is hex as 0x00512000, as every base is shown, or decimal without a leading 0: a\n"
-	"multiple of 4096, base plus length at most 2^32. `keep` is the base that IMAGE is at, so\n"
-	"that the release only sets. With the sheet of `sheet empty` it only moves.\n";
+	"BASE is hex with 0x, as every base is shown (0x00512000): a multiple of 4096, base plus length\n"
+	"at most 2^32. `keep` is the base that IMAGE is at, so that the release only sets. With the\n"
+	"sheet of `sheet empty` it only moves.\n";
 
 const char sheet_help[] =
 	"empty  writes to OUT the sheet for IMAGE that sets nothing: a release with it only moves.\n"
+	"start  writes to TEXT a text to begin with: the lines that bind it to IMAGE; with names also\n"
+	"       every setting, as a comment with its value. A file that is there is never begun over.\n"
 	"make   writes to OUT the sheet for IMAGE that the file TEXT describes.\n"
-	"show   shows SHEET as such a text; with IMAGE, each entry also has in a comment the bytes\n"
-	"       that it would replace and how many of them change. `sheet make` takes the output\n"
+	"show   shows SHEET as such a text; with IMAGE each entry also has what it would replace, and\n"
+	"       in a comment its position and how many bytes change. `sheet make` takes the output\n"
 	"       back and makes the same sheet of it.\n"
 	"\n"
-	"TEXT has a line for each entry: its offset in the configuration region (decimal, or hex\n"
-	"after 0x), then its bytes in hex, two digits each, as they stand in the image, with or\n"
-	"without blanks between them. Entries go by ascending offset. `#` starts a comment; empty\n"
-	"lines don't count. A sheet is for one identity, revision and extended number: IMAGE's. Lines\n"
-	"that name them (`identity`, `revision`, `extended`, and the value as `read` shows it) may\n"
-	"stand in TEXT, and then must be IMAGE's.\n"
+	"TEXT says which image it is for: the lines `identity` and `revision` (and `extended`, where it\n"
+	"isn't 0), as `read` shows them, must stand in it and be IMAGE's. They keep a text of one\n"
+	"revision from being used with another, where the same offsets are other settings. Then a line\n"
+	"for each entry, by ascending offset: its offset in the configuration region (decimal, or hex\n"
+	"after 0x) and its value, or with --names its name, = and its value. `#` starts a comment; empty\n"
+	"lines don't count.\n"
 	"\n"
-	"    # boot from the second slot\n"
+	"    identity 54524541542D3031\n"
 	"    revision 0x01020304\n"
-	"    40 01 00\n"
-	"    0x60 FFEE      # offset 96\n"
+	"    0x28 01 00 was 01 05            # boot from the second slot\n"
+	"    0x60 = 0x0000EEFF : 4           # as a number, four bytes, low byte first\n"
+	"    BypassRelay = Disabled was Enabled\n"
+	"\n"
+	"A value is bytes, two hex digits each and apart, as they stand in the image; or a number, 0x, with\n"
+	"its width in bytes after a colon, which a name has already; or, of a name, the words of one of its\n"
+	"choices, in quotes where they could be read otherwise. 00512000 could be bytes or a number, and is\n"
+	"refused. After `was` stands what the image has now: where it has other bytes, the line is refused.\n"
+	"A name whose default isn't what IMAGE has is only set with `was`.\n"
 	"\n"
 	"With --json `sheet show` has one JSON document in place of the text.\n"
 	"\n"
 	"The library judges every sheet: nothing is written unless it takes the sheet for IMAGE, and\n"
 	"of a text it refuses the line is named. make and empty show what the sheet is for, how many\n"
-	"entries it has and its length.\n";
+	"entries it has and its length; make also each entry, old -> new.\n";
+
+const char must_help[] =
+	"Explains FILE, which says what a shipped file must have, against IMAGE: each line with its\n"
+	"position, what IMAGE has now, and its names. The output is such a text again.\n"
+	"\n"
+	"FILE is for `--must` of `audit` and `verify`. It is a text like that of a sheet: `identity` and\n"
+	"`revision` (and `extended`, where it isn't 0) of the maker's image; `base`, which the shipped file\n"
+	"must be at, in hex after 0x, or `base any`; and a line for each setting that must be, changed or\n"
+	"not, by offset or by name. What stands after `was` must be in the maker's image.\n"
+	"\n"
+	"    identity 54524541542D3031\n"
+	"    revision 0x01020304\n"
+	"    base 0x00512000\n"
+	"    0x0128 00                       # the bypass is off\n";
+
+const char names_help[] =
+	"\n"
+	"--names FILE  the maker's names of the settings: its BSF as it is shipped, its YAML form, or a\n"
+	"          text of our own (`identity`, `revision` and `find`, the region's first eight bytes; then offset,\n"
+	"          length, name and \"display name\" of each setting, under it `default` and `choice` lines).\n"
+	"          Settings are then shown by name, and their values by the words of their choices. Names\n"
+	"          that don't fit the region are refused; where defaults aren't what the maker's image has,\n"
+	"          it is said first of all.\n"
+	"--names-strict  refuses names with such defaults.\n";
 
 const char made_out_help[] =
 	"\n"
@@ -82,10 +116,10 @@ const char owners_help[] =
 	"1 or 2 (decimal, or hex after 0x). `#` starts a comment; empty lines don't count.\n"
 	"\n"
 	"    # the board group\n"
-	"    32 8 1\n"
+	"    0x20 8 1\n"
 	"    # the tester group\n"
-	"    40 2 2\n"
-	"    0x60 16 2      # offsets 96 to 111\n"
+	"    0x28 2 2\n"
+	"    0x60 16 2      # offsets 0x60 to 0x6F\n"
 	"\n"
 	"Ranges go by ascending offset, none empty and none into the next, within offsets 32 to z-1;\n"
 	"there are at most 64, or none. What is in no range is nobody's: no release sets it.\n"
@@ -96,8 +130,9 @@ const char owners_help[] =
 	"refuses the line is named, or the range counted from 0.\n";
 
 const char setting_help[] =
-	"Shows the place in the image, the length and the bytes of the setting of LENGTH bytes at\n"
-	"OFFSET in the configuration region, as sheets and `audit --ranges` name it.\n"
+	"Shows the offset, the place in the image, the length and the bytes of the setting of LENGTH bytes\n"
+	"at OFFSET in the configuration region, as sheets and `audit --ranges` name it; of 2, 4 or 8\n"
+	"bytes also the number that they are, low byte first. With names, NAME is enough.\n"
 	"\n"
 	"OFFSET and LENGTH are decimal without a leading 0, or hex after 0x.\n";
 
@@ -105,12 +140,12 @@ const char audit_help[] =
 	"Compares SHIPPED with VENDOR moved to SHIPPED's base and shows that base, how many bytes\n"
 	"differ in settings and elsewhere (strays), how many bits in settings, each byte that\n"
 	"differs (S a setting, X a stray, with its position) and the verdict: explained where\n"
-	"there are no strays. Every difference is listed, however many there are.\n"
+	"there are no strays. Every difference is listed, however many there are. Explained says nothing of\n"
+	"whether the settings are the wanted ones: `verify` does, or --must.\n"
 	"\n"
-	"--bytes   each difference also has the byte it should be (VENDOR's, moved) and the byte\n"
-	"          it is, in hex.\n"
+	"--bytes   each difference also has the maker's byte (VENDOR's, moved) and the byte it is, in hex.\n"
 	"--ranges  neighbouring positions of one kind are one line: first and last position,\n"
-	"          length, and where they lie in VENDOR: `region offset N` (a setting), `patch\n"
+	"          length, and where they lie in VENDOR: `region offset 0xN` (a setting), `patch\n"
 	"          word N`, `base word`, `image base`, `relocation word N`, `tables`, `region\n"
 	"          header`, or `elsewhere`; then ` in module N` and the name of its file where a\n"
 	"          module has them, which of its other bytes is all. `read --modules` on VENDOR\n"
@@ -120,7 +155,7 @@ const char audit_help[] =
 const char verify_help[] =
 	"Says whether SHIPPED is, byte for byte, what releasing VENDOR with these sheets, in this\n"
 	"order, to SHIPPED's base makes: verdict `as released` or `not as released`. Then the base,\n"
-	"the move, each sheet with the count of its entries, how many bytes differ from that release\n"
+	"the move, each sheet with its entries, old -> new, how many bytes differ from that release\n"
 	"in settings and elsewhere (strays), how many bits in settings, and a line for each range\n"
 	"that differs, as `audit --ranges` has it, with the bytes it should have and the bytes it has\n"
 	"(`..` where there are more than 16). Of a setting it also says whose it is: `still as the\n"
@@ -140,6 +175,9 @@ const char check_help[] =
 	"          the verdict, the files with their SHA-256 (by the system's sha256sum), what VENDOR\n"
 	"          says of itself, the counts, a map, and the first 1000 ranges with their bytes. Of\n"
 	"          a refused pair the page says that.\n"
+	"--must FILE  also says of each line of FILE whether SHIPPED has what it must (see pajurenda must\n"
+	"          show --help): the verdict is then followed by `as required` or `not as required`, and what\n"
+	"          isn't held makes the exit status 1.\n"
 	"--text FILE  also writes every range with all its bytes, a line each.\n"
 	"--list FILE  checks each line of FILE: names as they would follow the command, separated by\n"
 	"          blanks, or by tabs where the line has one; a word that starts with # ends the line.\n"
@@ -149,14 +187,13 @@ const char check_help[] =
 	"--reports FOLDER  with --list: a page for each line that could be read goes into FOLDER, as\n"
 	"          line-N-SHIPPED.html.\n"
 	"\n"
-	"FILE may be none of the inputs. It is written whole or not at all, before anything is shown.\n"
-	"\n";
+	"FILE may be none of the inputs. It is written whole or not at all, before anything is shown.\n";
 
 const char audit_status_help[] =
-	"Exit status: 0 explained, 1 unexplained, 2 refused or failed.\n";
+	"\nExit status: 0 explained, 1 unexplained or not as required, 2 refused or failed.\n";
 
 const char verify_status_help[] =
-	"Exit status: 0 as released, 1 not as released, 2 refused or failed.\n";
+	"\nExit status: 0 as released, 1 not as released or not as required, 2 refused or failed.\n";
 
 const char handoff_help[] =
 	"Shows the hand-off blocks that firmware left in memory, from the first byte of DUMP up to\n"
@@ -210,9 +247,9 @@ const char status_help[] =
 
 const char general_help[] =
 	"\n"
-	"Numbers: hex as 0x00512000, or decimal without a leading 0; they must fit 64 bits. A base,\n"
-	"an address, a revision, an extended number, a word and bytes are shown in hex, all else\n"
-	"in decimal.\n"
+	"Numbers: hex as 0x00512000, or decimal without a leading 0; they must fit 64 bits. A base is hex\n"
+	"alone. A base, an address, an offset of the region, a revision, an extended number, a word and\n"
+	"bytes are shown in hex, all else in decimal.\n"
 	"\n"
 	"Options may stand before or after the files; `--` ends them. A file named like an option\n"
 	"or `help` is given as ./NAME. `--owners=LIST` is `--owners LIST`. A file longer than 16777216\n"
@@ -221,7 +258,7 @@ const char general_help[] =
 	"empty image.\n"
 	"\n"
 	"Exit status: 0 done (audit: explained; verify: as released), 1 audit: unexplained, verify:\n"
-	"not as released, 2 refused, wrong usage or an input or output error. A refusal prints\n"
-	"`refused N` (station: in the line of each call) and, on standard error, the file, the rule and\n"
-	"the values that decided; nothing is written to OUT then. The refusals:\n"
+	"not as released, both: not as required, 2 refused, wrong usage or an input or output error. A\n"
+	"refusal prints `refused N` (station: in the line of each call) and, on standard error, the file,\n"
+	"the rule and the values that decided; nothing is written to OUT then. The refusals:\n"
 	"\n";

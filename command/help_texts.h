@@ -6,6 +6,8 @@ extern const char read_help[];
 extern const char release_help[];
 extern const char sheet_help[];
 extern const char made_out_help[];
+extern const char must_help[];
+extern const char names_help[];
 extern const char owners_help[];
 extern const char setting_help[];
 extern const char audit_help[];

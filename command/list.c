@@ -21,7 +21,7 @@
 
 /* The most names in a line, and the room for a page's own name. */
 #define MOST_NAMES 256
-#define MOST_NAME 64
+#define MOST_LAST 64
 
 /* A list being gone through, and how many pairs came to each end. */
 struct tour {
@@ -30,7 +30,7 @@ struct tour {
 	const struct options *options;
 	struct text text;
 	size_t lines; /* of the list, for who waits */
-	uint64_t good, bad, refused, failed;
+	uint64_t good, bad, unheld, refused, failed;
 	enum status worst;
 };
 
@@ -84,10 +84,10 @@ static char *name_page(const struct tour *tour, const char *shipped)
 {
 	static const char plain[] = "ABCDEFGHIJKLMNOPQRSTUVWXYZabcdefghijklmnopqrstuvwxyz0123456789._-";
 	const char *last = strrchr(shipped, '/') == NULL ? shipped : strrchr(shipped, '/') + 1;
-	char short_name[MOST_NAME + 1] = "";
-	const size_t room = strlen(tour->folder) + MOST_NAME + 40;
+	char short_name[MOST_LAST + 1] = "";
+	const size_t room = strlen(tour->folder) + MOST_LAST + 40;
 	char *name = malloc(room);
-	strncat(short_name, last, MOST_NAME);
+	strncat(short_name, last, MOST_LAST);
 	for (char *c = short_name; *c != 0; c++)
 		*c = strchr(plain, *c) == NULL ? '_' : *c;
 	if (name != NULL)
@@ -133,8 +133,10 @@ static void show_outcome(const struct check *check)
 		printf("refused %" PRIu32, check->number);
 		return;
 	}
-	printf("%s base 0x%08" PRIX64 " settings %" PRIu64 " strays %" PRIu64 " bits %" PRIu64,
-	       verdict_of(check), count_of(check, PAJURENDA_AUDIT_BASE),
+	const char *required = required_of(check);
+	printf("%s%s%s base 0x%08" PRIX64 " settings %" PRIu64 " strays %" PRIu64 " bits %" PRIu64,
+	       verdict_of(check), required == NULL ? "" : ", ", required == NULL ? "" : required,
+	       count_of(check, PAJURENDA_AUDIT_BASE),
 	       count_of(check, PAJURENDA_AUDIT_SETTINGS), count_of(check, PAJURENDA_AUDIT_STRAYS),
 	       count_of(check, PAJURENDA_AUDIT_BITS));
 }
@@ -143,11 +145,12 @@ static void show_outcome(const struct check *check)
 static void count_outcome(struct tour *tour, const struct check *check, bool failed)
 {
 	const bool refused = check->number != PAJURENDA_ACCEPTED;
-	const enum status status = failed || refused ? FAILED : is_good(check) ? FINE : UNEXPLAINED;
+	const enum status status = failed ? FAILED : status_of(check);
 	tour->failed += failed;
 	tour->refused += !failed && refused;
-	tour->good += status == FINE;
-	tour->bad += status == UNEXPLAINED;
+	tour->good += status != FAILED && is_good(check);
+	tour->bad += status != FAILED && !is_good(check);
+	tour->unheld += status != FAILED && !is_held(&check->must);
 	if (status > tour->worst)
 		tour->worst = status;
 }
@@ -209,7 +212,11 @@ static enum status end_tour(const struct tour *tour)
 	printf("pairs %" PRIu64 " %s %" PRIu64 " %s %" PRIu64, pairs,
 	       tour->verify ? "as released" : "explained", tour->good,
 	       tour->verify ? "not as released" : "unexplained", tour->bad);
+	if (tour->options->must != NULL)
+		printf(" not as required %" PRIu64, tour->unheld);
 	printf(" refused %" PRIu64 " failed %" PRIu64 "\n", tour->refused, tour->failed);
+	if (!tour->verify && tour->good != 0 && tour->options->must == NULL)
+		printf("not checked %s\n", not_checked);
 	return tour->worst;
 }
 

@@ -4,6 +4,7 @@
  */
 #include "numbers.h"
 
+#include <inttypes.h>
 #include <stdio.h>
 #include <string.h>
 
@@ -90,34 +91,60 @@ void say_how(const char *text, const char *other)
 			"leading 0%s", other);
 }
 
-/* A number from a word of the command line, or another word's place; false after a message. */
-static bool take(const char *command, const char *name, const char *text, const char *other,
-		 uint64_t *value)
+/* A word of the command line that is no such number, up to how to write one. */
+static void refuse_word(const char *command, const char *name, const char *text, enum number number)
 {
-	const enum number number = read_number(text, value);
-	if (number == NUMBER)
-		return true;
 	fprintf(stderr, "pajurenda: %s: %s \"", command, name);
 	say_name(text);
 	fputs("\" ", stderr);
 	if (number == TOO_LARGE)
 		fputs("does not fit 64 bits", stderr);
-	else
-		say_how(text, other);
-	fputc('\n', stderr);
-	return false;
 }
 
 /* A number of 64 bits from a word of the command line; false after a message. */
 bool take_number(const char *command, const char *name, const char *text, uint64_t *value)
 {
-	return take(command, name, text, "", value);
+	const enum number number = read_number(text, value);
+	if (number == NUMBER)
+		return true;
+	refuse_word(command, name, text, number);
+	if (number == NO_NUMBER)
+		say_how(text, "");
+	fputc('\n', stderr);
+	return false;
+}
+
+/* A base in hex, as every base is shown; decimal could be meant as hex. */
+enum number read_base(const char *text, uint64_t *value)
+{
+	return is_hex(text) ? read_number(text, value) : NO_NUMBER;
+}
+
+/* How a base that isn't one would be written: digits alone in both ways that they can be meant. */
+void say_base(const char *text, const char *other)
+{
+	uint64_t value = 0;
+	if (all_of(text, HEX)) {
+		fprintf(stderr, "has no 0x, and a base is hex: write 0x%s", text);
+		if (all_of(text, DECIMAL) && evaluate(text, 10, &value))
+			fprintf(stderr, ", or 0x%" PRIX64 " where %s is decimal", value, text);
+	} else if (text[0] == '0' && text[1] == 'X' && all_of(text + 2, HEX)) {
+		say_how(text, other);
+	} else {
+		fprintf(stderr, "is not hex: write it as 0x00512000%s", other);
+	}
 }
 
 /* A base, or `keep`; false after a message. */
 bool take_base(const char *command, const char *text, struct base *base)
 {
 	base->keep = strcmp(text, "keep") == 0;
-	return base->keep || take(command, "BASE", text, ", or keep for the image's own base",
-				  &base->value);
+	const enum number number = base->keep ? NUMBER : read_base(text, &base->value);
+	if (number == NUMBER)
+		return true;
+	refuse_word(command, "BASE", text, number);
+	if (number == NO_NUMBER)
+		say_base(text, ", or keep for the image's own base");
+	fputc('\n', stderr);
+	return false;
 }

@@ -18,6 +18,8 @@ enum number read_number(const char *text, uint64_t *value);
 void say_how(const char *text, const char *other);
 bool all_hex(const char *text);
 uint8_t byte_of(const char *digits);
+enum number read_base(const char *text, uint64_t *value);
+void say_base(const char *text, const char *other);
 bool take_base(const char *command, const char *text, struct base *base);
 bool take_number(const char *command, const char *name, const char *text, uint64_t *value);
 

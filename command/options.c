@@ -39,6 +39,9 @@ static const struct known option_names[] = {
 	{ "--text", TEXT, " has no FILE after it" },
 	{ "--list", LIST, " has no FILE after it" },
 	{ "--reports", REPORTS, " has no FOLDER after it" },
+	{ "--names", NAMES, " has no FILE after it" },
+	{ "--names-strict", STRICT, NULL },
+	{ "--must", MUST, " has no FILE after it" },
 };
 
 #define OPTION_NAMES (sizeof option_names / sizeof option_names[0])
@@ -88,6 +91,8 @@ static const char **place_of(struct options *options, unsigned option)
 	case REPORT: return &options->report;
 	case TEXT: return &options->text;
 	case LIST: return &options->list;
+	case NAMES: return &options->names;
+	case MUST: return &options->must;
 	default: return &options->reports;
 	}
 }
@@ -254,6 +259,8 @@ static enum status run_named(const struct line *line)
 	const unsigned others = line->options.given & ~command->options;
 	if (others != 0)
 		return fail_usage(command->name, "takes no option ", name_option(others), "");
+	if ((line->options.given & (NAMES | STRICT)) == STRICT)
+		return fail_usage(command->name, "--names-strict goes with --names FILE", "", "");
 	return run_with(command, line);
 }
 

@@ -21,8 +21,8 @@ static int write_text(const struct bytes *list, uint64_t size, char *text, size_
 	char settings[64] = "no offset at all, as there are no settings", line[64] = "";
 	if (count_ranges(list) > 0) {
 		const struct owned range = range_at(list, 0);
-		snprintf(settings, sizeof settings, "offsets 32 to %" PRIu64, size - 1);
-		snprintf(line, sizeof line, "%" PRIu64 " %" PRIu64 " %" PRIu64 "\n", range.offset,
+		snprintf(settings, sizeof settings, "offsets 0x0020 to 0x%04" PRIX64, size - 1);
+		snprintf(line, sizeof line, "0x%04" PRIX64 " %" PRIu64 " %" PRIu64 "\n", range.offset,
 			 range.length, range.owner);
 	}
 	return snprintf(text, room, form, settings, line);

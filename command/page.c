@@ -63,6 +63,15 @@ static void take_tally(const struct check *check, struct tally *tally)
 
 /* ---- the frame ---- */
 
+/* The verdict, and what must be beside it. */
+void put_verdict_words(const struct page *page)
+{
+	const char *required = required_of(page->check);
+	fputs(verdict_of(page->check), page->to);
+	if (required != NULL)
+		fprintf(page->to, ", %s", required);
+}
+
 /* Nothing may be fetched and no script run, even where one came to stand in the page. */
 static void put_head(const struct page *page)
 {
@@ -72,7 +81,7 @@ static void put_head(const struct page *page)
 	      "<meta name=\"viewport\" content=\"width=device-width, initial-scale=1\">\n"
 	      "<title>", page->to);
 	fputs(page->check->verify ? "Verify: " : "Audit: ", page->to);
-	fputs(verdict_of(page->check), page->to);
+	put_verdict_words(page);
 	fputs("</title>\n<style>\n", page->to);
 	put_style(page->to);
 	fputs("</style>\n</head>\n<body>\n<main>\n", page->to);
@@ -122,7 +131,10 @@ static void put_page(const struct page *page)
 		take_tally(page->check, &tally);
 	put_head(page);
 	put_top(page);
+	put_page_naming(page);
 	put_verdict(page, &tally);
+	if (!refused)
+		put_page_must(page);
 	if (refused)
 		put_files(page);
 	else

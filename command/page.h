@@ -26,6 +26,7 @@ bool save_page(const struct check *check, const char *name, const struct named *
 
 /* Its parts, each in a file of its own. */
 void put_style(FILE *to);
+void put_verdict_words(const struct page *page);
 void put_verdict(const struct page *page, const struct tally *tally);
 void put_files(const struct page *page);
 void put_facts(const struct page *page);
@@ -33,6 +34,11 @@ void put_words(const struct page *page);
 void put_maps(const struct page *page);
 void put_ranges(const struct page *page, const struct tally *tally);
 void put_sheets(const struct page *page);
+void put_page_naming(const struct page *page);
+void put_page_must(const struct page *page);
+void put_page_names(const struct page *page, const struct change *change, const char *between);
+void put_page_number(FILE *to, const uint8_t *bytes, uint64_t length);
+uint64_t count_idle(const struct check *check, uint64_t *entries);
 
 /* Small ones that all use. */
 void put_plural(FILE *to, uint64_t count, const char *one, const char *many);

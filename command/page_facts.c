@@ -31,6 +31,18 @@ static void say_audit(const struct page *page)
 	}
 }
 
+/* Entries that set what the maker's image has already. */
+static void say_idle(const struct page *page)
+{
+	uint64_t entries = 0;
+	const uint64_t idle = count_idle(page->check, &entries);
+	if (idle == 0)
+		return;
+	fprintf(page->to, " %" PRIu64 " of ", idle);
+	put_plural(page->to, entries, "entry", "entries");
+	fprintf(page->to, " change%s nothing: the maker's image has these bytes already.", idle == 1 ? "s" : "");
+}
+
 /* The verdict's sentence of a verify. */
 static void say_verify(const struct page *page, const struct tally *tally)
 {
@@ -38,6 +50,7 @@ static void say_verify(const struct page *page, const struct tally *tally)
 	if (is_good(page->check)) {
 		fputs("Byte for byte, the shipped file is what releasing the maker's image with the sheets "
 		      "below, in their order, to its base makes.", to);
+		say_idle(page);
 		return;
 	}
 	put_plural(to, differences(&page->check->found), "byte is", "bytes are");
@@ -61,20 +74,37 @@ static void say_refusal(const struct page *page)
 	fputs(". Nothing was compared.", page->to);
 }
 
+/* Whether everything is there that must be, and how much isn't; nothing where nothing must be. */
+static void say_required(const struct page *page)
+{
+	const struct must *must = &page->check->must;
+	if (must->file.name == NULL)
+		return;
+	fprintf(page->to, "<p>Of what must be, %" PRIu64 " of ", count_held(must) + is_base_held(must));
+	put_plural(page->to, must->count + 1, "line is held.</p>\n", "lines are held.</p>\n");
+}
+
 /* In words, large; its kind also by the frame. */
 void put_verdict(const struct page *page, const struct tally *tally)
 {
 	const bool refused = page->check->number != PAJURENDA_ACCEPTED;
-	const bool good = is_good(page->check);
-	fprintf(page->to, "<section class=\"verdict %s\">\n<p class=\"word\">%s</p>\n<p>",
-		good ? "good" : "bad", verdict_of(page->check));
+	const bool unchecked = is_unchecked(page->check);
+	fprintf(page->to, "<section class=\"verdict %s\">\n<p class=\"word\">",
+		unchecked ? "open" : is_fine(page->check) ? "good" : "bad");
+	put_verdict_words(page);
+	fputs("</p>\n<p>", page->to);
 	if (refused)
 		say_refusal(page);
 	else if (page->check->verify)
 		say_verify(page, tally);
 	else
 		say_audit(page);
-	fputs("</p>\n</section>\n", page->to);
+	fputs("</p>\n", page->to);
+	if (!refused)
+		say_required(page);
+	if (unchecked)
+		fprintf(page->to, "<p class=\"unchecked\">Not checked: %s.</p>\n", not_checked);
+	fputs("</section>\n", page->to);
 }
 
 /* ---- the files ---- */
@@ -128,6 +158,10 @@ void put_files(const struct page *page)
 		put_input(page->to, role, &page->check->list);
 	}
 	put_input(page->to, "Shipped file", &page->check->shipped);
+	if (page->check->must.file.name != NULL)
+		put_input(page->to, "What must be", &page->check->must.file);
+	if (page->check->naming.file.name != NULL)
+		put_input(page->to, "Names", &page->check->naming.file);
 	if (page->text != NULL)
 		put_file(page->to, "Whole list", page->text, true);
 	fputs("</tbody>\n</table>\n</section>\n", page->to);

@@ -26,15 +26,23 @@ static void put_setter(FILE *to, const struct range *range)
 static void put_row(const struct page *page, const struct ranges *ranges, const struct range *range)
 {
 	const struct check *check = page->check;
+	struct change change;
+	const bool setting = range_change(ranges, range, &change);
 	FILE *to = page->to;
 	fprintf(to, "<tr class=\"%s\"><td>%s</td><td class=\"at\">%" PRIu64 "..%" PRIu64
 		"</td><td class=\"number\">%" PRIu64 "</td><td class=\"at\">", range->stray ? "stray" : "setting",
 		range->stray ? "X stray" : "S setting", range->first, range->last, length_of(range));
 	put_where(to, ranges, range);
+	if (setting)
+		put_page_names(page, &change, check->verify ? " is " : " -> ");
 	fputs("</td><td class=\"bytes\">", to);
 	put_cut_bytes(to, &check->reference, range->first, length_of(range));
+	if (setting)
+		put_page_number(to, change.old, change.length);
 	fputs("</td><td class=\"bytes\">", to);
 	put_cut_bytes(to, &check->shipped.bytes, range->first, length_of(range));
+	if (setting)
+		put_page_number(to, change.new, change.length);
 	fputs("</td>", to);
 	if (check->verify)
 		put_setter(to, range);
@@ -84,9 +92,11 @@ void put_ranges(const struct page *page, const struct tally *tally)
 		return;
 	}
 	start_ranges(&ranges, page->check);
-	fprintf(to, "<table class=\"ranges\">\n<thead><tr><th>Kind</th><th>Position</th>"
-		"<th class=\"number\">Bytes</th><th>Where</th><th>Should be</th><th>Is</th>%s"
-		"</tr></thead>\n<tbody>\n", page->check->verify ? "<th>Set by</th>" : "");
+	fprintf(to, "<table class=\"ranges %s\">\n<thead><tr><th>Kind</th><th>Position</th>"
+		"<th class=\"number\">Bytes</th><th>Where</th><th>%s</th><th>Is</th>%s"
+		"</tr></thead>\n<tbody>\n", page->check->verify ? "verified" : "audited",
+		page->check->verify ? "Should be" : "Maker's, moved",
+		page->check->verify ? "<th>Set by</th>" : "");
 	const uint64_t bytes = put_rows(page, &ranges);
 	fputs("</tbody>\n</table>\n", to);
 	if (tally->ranges > MOST_ROWS)

@@ -22,6 +22,30 @@ static struct listed listed_at(const struct check *check, size_t sheet, uint64_t
 				number_at(bytes, at + 6, 2) };
 }
 
+/* The entry sets what the maker's image has already. */
+static bool is_idle(const struct check *check, const struct listed *entry)
+{
+	struct change change;
+	return entry_change(&check->vendor.bytes, &check->sheets[entry->sheet].bytes, entry->index, &change) &&
+	       count_changed(&change) == 0;
+}
+
+/* How many entries of all sheets do so, and how many there are. */
+uint64_t count_idle(const struct check *check, uint64_t *entries)
+{
+	uint64_t idle = 0;
+	*entries = 0;
+	for (size_t sheet = 0; sheet < check->sheet_count; sheet++) {
+		const uint64_t count = number_at(&check->sheets[sheet].bytes, 12, 2);
+		*entries += count;
+		for (uint64_t i = 0; i < count; i++) {
+			const struct listed entry = listed_at(check, sheet, i);
+			idle += is_idle(check, &entry);
+		}
+	}
+	return idle;
+}
+
 /* What the file has of an entry: by the audits, byte by byte. */
 static const char *state_of(const struct check *check, const struct listed *entry)
 {
@@ -42,20 +66,29 @@ static const char *state_of(const struct check *check, const struct listed *entr
 	if (again > 0)
 		return again == entry->length ? "set again by a later sheet"
 					      : "as set; in part set again by a later sheet";
-	return "as set";
+	return is_idle(check, entry) ? "changes nothing" : "as set";
 }
 
 /* An entry's row. */
 static void put_entry(const struct page *page, const struct listed *entry)
 {
 	const struct check *check = page->check;
+	struct change change;
+	const bool found = entry_change(&check->vendor.bytes, &check->sheets[entry->sheet].bytes, entry->index,
+					&change);
 	const uint64_t place = pajurenda_field(check->reading, PAJURENDA_READ_REGION) + entry->offset;
-	fprintf(page->to, "<tr><td class=\"number\">%" PRIu64 "</td><td class=\"number\">%" PRIu64
-		"</td><td class=\"number\">%" PRIu64 "</td><td class=\"bytes\">", entry->index, entry->offset,
-		entry->length);
+	fprintf(page->to, "<tr><td class=\"number\">%" PRIu64 "</td><td class=\"at\">0x%04" PRIX64 " at %" PRIu64,
+		entry->index, entry->offset, place);
+	if (found)
+		put_page_names(page, &change, " -> ");
+	fprintf(page->to, "</td><td class=\"number\">%" PRIu64 "</td><td class=\"bytes\">", entry->length);
 	put_cut_bytes(page->to, &check->sheets[entry->sheet].bytes, entry->body, entry->length);
+	if (found)
+		put_page_number(page->to, change.new, change.length);
 	fputs("</td><td class=\"bytes\">", page->to);
 	put_cut_bytes(page->to, &check->vendor.bytes, place, entry->length);
+	if (found)
+		put_page_number(page->to, change.old, change.length);
 	fprintf(page->to, "</td><td>%s</td></tr>\n", state_of(check, entry));
 }
 
@@ -65,7 +98,7 @@ static uint64_t put_entries(const struct page *page, size_t sheet, uint64_t most
 	const uint64_t count = number_at(&page->check->sheets[sheet].bytes, 12, 2);
 	uint64_t i = 0;
 	fputs("<table class=\"entries\">\n<thead><tr><th class=\"number\">Entry</th>"
-	      "<th class=\"number\">Offset</th><th class=\"number\">Bytes</th><th>Sets</th>"
+	      "<th>Offset and position</th><th class=\"number\">Bytes</th><th>Sets</th>"
 	      "<th>Maker's</th><th>In the shipped file</th></tr></thead>\n<tbody>\n", page->to);
 	for (; i < count && i < most; i++) {
 		const struct listed entry = listed_at(page->check, sheet, i);

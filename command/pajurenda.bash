@@ -7,10 +7,11 @@ _pajurenda_word()
 	:*) echo commands ;;
 	help:0) echo topics ;;
 	sheet:0) echo sheets ;;
+	must:0) echo musts ;;
 	owners:0) echo lists ;;
 	release:2) echo bases ;;
 	read:0 | release:[013] | setting:0 | audit:[01] | verify:* | handoff:0 | station:0) echo files ;;
-	sheet\ empty:[01] | sheet\ make:[012] | sheet\ show:[01] | owners\ all:[01] | owners\ show:[01]) echo files ;;
+	sheet\ empty:[01] | sheet\ start:[01] | sheet\ make:[012] | sheet\ show:[01] | owners\ all:[01] | owners\ show:[01] | must\ show:[01]) echo files ;;
 	*) echo nothing ;;
 	esac
 }
@@ -21,9 +22,11 @@ _pajurenda_options()
 	case $1 in
 	'') echo '--help --version' ;;
 	read) echo '--modules --words --json --help' ;;
-	audit) echo '--bytes --ranges --json --report --text --list --reports --help' ;;
-	verify) echo '--owners --owner --json --report --text --list --reports --help' ;;
-	handoff | sheet\ show) echo '--json --help' ;;
+	audit) echo '--bytes --ranges --json --report --text --list --reports --names --names-strict --must --help' ;;
+	verify) echo '--owners --owner --json --report --text --list --reports --names --names-strict --must --help' ;;
+	handoff) echo '--json --help' ;;
+	sheet\ show) echo '--json --names --names-strict --help' ;;
+	setting | sheet\ start | sheet\ make | owners\ show | must\ show) echo '--names --names-strict --help' ;;
 	release) echo '--owners --owner --help' ;;
 	*) echo '--help' ;;
 	esac
@@ -34,7 +37,7 @@ _pajurenda_take()
 {
 	if [[ -z $command ]]; then
 		command=$1
-	elif [[ $command == sheet || $command == owners ]]; then
+	elif [[ $command == sheet || $command == owners || $command == must ]]; then
 		command="$command $1"
 	else
 		words=$((words + 1))
@@ -46,7 +49,7 @@ _pajurenda_kind()
 {
 	case $value:$ended$current in
 	--owner:*) echo numbers ;;
-	--owners:* | --report:* | --text:* | --list:* | --reports:*) echo files ;;
+	--owners:* | --report:* | --text:* | --list:* | --reports:* | --names:* | --must:*) echo files ;;
 	:-*) echo options ;;
 	*) _pajurenda_word "$command" "$words" ;;
 	esac
@@ -61,7 +64,7 @@ _pajurenda_pass()
 	fi
 	case $ended$1 in
 	--) ended=yes ;;
-	--owners | --owner | --report | --text | --list | --reports) value=$1 ;;
+	--owners | --owner | --report | --text | --list | --reports | --names | --must) value=$1 ;;
 	-?*) ;;
 	*) _pajurenda_take "$1" ;;
 	esac
@@ -78,10 +81,11 @@ _pajurenda()
 	case $(_pajurenda_kind) in
 	options) offered=$(_pajurenda_options "$command") ;;
 	numbers) offered='1 2' ;;
-	commands) offered='read release sheet owners setting audit verify handoff station help' ;;
-	topics) offered='read release sheet owners setting audit verify handoff station' ;;
-	sheets) offered='empty make show' ;;
+	commands) offered='read release sheet must owners setting audit verify handoff station help' ;;
+	topics) offered='read release sheet must owners setting audit verify handoff station' ;;
+	sheets) offered='empty start make show' ;;
 	lists) offered='all show' ;;
+	musts) offered='show' ;;
 	bases) offered='keep' ;;
 	files)
 		compopt -o filenames 2>/dev/null

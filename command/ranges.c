@@ -156,7 +156,7 @@ void put_where(FILE *to, const struct ranges *ranges, const struct range *range)
 	if (where->room == PATCH_WORD || where->room == RELOCATION_WORD)
 		fprintf(to, " %" PRIu64, where->index);
 	if (where->room == SETTINGS)
-		fprintf(to, " %" PRIu64, range->first - ranges->map.region);
+		fprintf(to, " 0x%04" PRIX64, range->first - ranges->map.region);
 	if (where->module == NO_MODULE)
 		return;
 	fprintf(to, "%smodule %" PRIu64 " ", where->room == MODULE_BYTES ? "" : " in ", where->module);
@@ -177,8 +177,8 @@ static void put_bytes(FILE *to, const struct bytes *file, const struct range *ra
 	const uint64_t count = length_of(range) < most ? length_of(range) : most;
 	if (!has_bytes(file, range->first, length_of(range)))
 		return;
-	show_hex(to, file->at + range->first, (size_t)count);
-	fputs(count < length_of(range) ? ".." : "", to);
+	show_apart(to, file->at + range->first, (size_t)count);
+	fputs(count < length_of(range) ? " .." : "", to);
 }
 
 /* Who sets a setting, and whether the file has what the maker delivered; of a verify alone. */
@@ -195,14 +195,49 @@ static void put_setter(FILE *to, const struct check *check, const struct range *
 	put_name(to, check->sheets[range->set.sheet - 1].name);
 }
 
-/* A range with both bytes, at most so many of them, and who sets it. */
+/* A setting's bytes in what the file should be and in the file; false of a stray. */
+bool range_change(const struct ranges *ranges, const struct range *range, struct change *change)
+{
+	const struct check *check = ranges->check;
+	const uint64_t length = length_of(range);
+	if (range->stray || !has_bytes(&check->reference, range->first, length) ||
+	    !has_bytes(&check->shipped.bytes, range->first, length))
+		return false;
+	*change = (struct change){ .offset = range->first - ranges->map.region, .place = range->first,
+				   .length = (size_t)length, .old = check->reference.at + range->first,
+				   .new = check->shipped.bytes.at + range->first, .whole = true };
+	return true;
+}
+
+/* The names of a setting with both values, where there are names. */
+void put_range_names(FILE *to, const struct ranges *ranges, const struct range *range,
+		     const char *between)
+{
+	struct change change;
+	if (range_change(ranges, range, &change))
+		put_names(to, names_of(&ranges->check->naming), &change, between);
+}
+
+/* The number that a range's bytes are in a file, where it is a setting. */
+static void put_range_number(FILE *to, const struct bytes *file, const struct range *range)
+{
+	if (!range->stray && has_bytes(file, range->first, length_of(range)))
+		put_number_of(to, " = ", file->at + range->first, (size_t)length_of(range));
+}
+
+/* A range with both bytes, at most so many of them, and who sets it; in an audit the first are the maker's,
+   moved. */
 void put_range(FILE *to, const struct ranges *ranges, const struct range *range, uint64_t most)
 {
+	const struct check *check = ranges->check;
 	put_place(to, ranges, range);
-	fputs(" should ", to);
-	put_bytes(to, &ranges->check->reference, range, most);
+	fputs(check->verify ? " should " : " maker's ", to);
+	put_bytes(to, &check->reference, range, most);
+	put_range_number(to, &check->reference, range);
 	fputs(" is ", to);
-	put_bytes(to, &ranges->check->shipped.bytes, range, most);
-	put_setter(to, ranges->check, range);
+	put_bytes(to, &check->shipped.bytes, range, most);
+	put_range_number(to, &check->shipped.bytes, range);
+	put_setter(to, check, range);
+	put_range_names(to, ranges, range, check->verify ? " is " : " -> ");
 	fputc('\n', to);
 }

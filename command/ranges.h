@@ -42,6 +42,9 @@ const char *name_room(enum room room);
 uint64_t length_of(const struct range *range);
 void put_where(FILE *to, const struct ranges *ranges, const struct range *range);
 void put_place(FILE *to, const struct ranges *ranges, const struct range *range);
+bool range_change(const struct ranges *ranges, const struct range *range, struct change *change);
+void put_range_names(FILE *to, const struct ranges *ranges, const struct range *range,
+		     const char *between);
 void put_range(FILE *to, const struct ranges *ranges, const struct range *range, uint64_t most);
 
 #endif

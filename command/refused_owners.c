@@ -34,14 +34,14 @@ enum status refuse_range(const struct owners *owners, size_t index, uint64_t siz
 	say_rule(PAJURENDA_OWNERS);
 	say_form(owners);
 	say_place(owners, index);
-	fprintf(stderr, ": offset %" PRIu64, range.offset);
+	fprintf(stderr, ": offset 0x%04" PRIX64, range.offset);
 	if (index > 0) {
 		const struct owned before = range_at(&owners->list, index - 1);
-		fprintf(stderr, " (the one before ends at %" PRIu64 ")", before.offset + before.length);
+		fprintf(stderr, " (the one before ends at 0x%04" PRIX64 ")", before.offset + before.length);
 	}
 	fprintf(stderr, " length %" PRIu64 " owner %" PRIu64 ", ranges so far %zu", range.length,
 		range.owner, index + 1);
-	fprintf(stderr, ", the region's size z is %" PRIu64, size);
+	fprintf(stderr, ", the region's size z is 0x%04" PRIX64, size);
 	return end_refusal();
 }
 
@@ -79,7 +79,7 @@ static void say_whose(const struct owners *owners, uint64_t offset)
 	say_name(owners->name);
 	fputs(", ", stderr);
 	say_place(owners, index);
-	fprintf(stderr, ": %" PRIu64 " %" PRIu64 " %" PRIu64, range.offset, range.length,
+	fprintf(stderr, ": 0x%04" PRIX64 " %" PRIu64 " %" PRIu64, range.offset, range.length,
 		range.owner);
 }
 
@@ -89,9 +89,9 @@ enum status refuse_byte(const struct named *sheet, const struct asked *asked, ui
 {
 	begin_refusal(PAJURENDA_OWNER, sheet->name);
 	say_rule(PAJURENDA_OWNER);
-	fprintf(stderr, "entry %" PRIu64 " (counted from 0) has offset %" PRIu64 " length %" PRIu64,
+	fprintf(stderr, "entry %" PRIu64 " (counted from 0) has offset 0x%04" PRIX64 " length %" PRIu64,
 		asked->index, asked->offset, asked->length);
-	fprintf(stderr, ", owner %" PRIu64 " asks, offset %" PRIu64 " is ", owner, offset);
+	fprintf(stderr, ", owner %" PRIu64 " asks, offset 0x%04" PRIX64 " is ", owner, offset);
 	say_whose(owners, offset);
 	return end_refusal();
 }

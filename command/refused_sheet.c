@@ -56,7 +56,7 @@ static void say_row(const struct bytes *sheet, uint64_t count)
 		fputs("is cut short", stderr);
 		return;
 	}
-	fprintf(stderr, "has offset %" PRIu64 " (the one before ends at %" PRIu64 ")", row.offset,
+	fprintf(stderr, "has offset 0x%04" PRIX64 " (the one before ends at 0x%04" PRIX64 ")", row.offset,
 		row.end);
 	fprintf(stderr, ", length %" PRIu64 ", body at %" PRIu64 " (the one before ends at %" PRIu64
 		")", row.length, row.body, row.running);
@@ -120,7 +120,7 @@ enum status refuse_identity(const struct named *sheet, const struct named *image
 /* What was asked for, and how far the settings go. */
 static enum status end_field(const struct asked *asked, uint64_t size)
 {
-	fprintf(stderr, "offset %" PRIu64 " length %" PRIu64 ", the region's size z is %" PRIu64,
+	fprintf(stderr, "offset 0x%04" PRIX64 " length %" PRIu64 ", the region's size z is 0x%04" PRIX64,
 		asked->offset, asked->length, size);
 	return end_refusal();
 }

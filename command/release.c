@@ -4,6 +4,7 @@
 #include <stdio.h>
 #include <stdlib.h>
 
+#include "changes.h"
 #include "files.h"
 #include "messages.h"
 #include "numbers.h"
@@ -18,18 +19,21 @@ struct releasing {
 	struct base base;
 };
 
-/* What a release shows: the base, how far it moved, how many entries of the sheet were set. */
-static void show_release(uint64_t base, const uint8_t *answer, const struct bytes *sheet)
+/* What a release shows: the base, how far it moved, how many entries of the sheet were set, and each of them
+   with what it replaced. */
+static enum status show_release(uint64_t base, const uint8_t *answer, const struct bytes *before,
+				const struct bytes *sheet)
 {
 	uint8_t judged[PAJURENDA_SHEET_BYTES] = { 0 };
 	(void)pajurenda_sheet(sheet->at, sheet->length, judged, sizeof judged);
 	printf("base 0x%08" PRIX64 "\n", base);
 	printf("move %" PRId64 "\n", pajurenda_signed_field(answer, PAJURENDA_RELEASE_MOVE));
 	printf("entries %" PRIu64 "\n", pajurenda_field(judged, PAJURENDA_SHEET_COUNT));
+	return show_changes(before, sheet, NULL);
 }
 
-/* The loaded image released and saved. */
-static enum status release_to(struct releasing *r, const char *out)
+/* The loaded image released and saved; told beside the image as it was. */
+static enum status release_to(struct releasing *r, const struct bytes *before, const char *out)
 {
 	uint8_t answer[PAJURENDA_RELEASE_BYTES] = { 0 };
 	r->asking.image = &r->image;
@@ -41,8 +45,18 @@ static enum status release_to(struct releasing *r, const char *out)
 		return refuse_release(number, &r->asking);
 	if (!save(out, &r->image.bytes))
 		return FAILED;
-	show_release(r->asking.base, answer, &r->sheet.bytes);
-	return FINE;
+	return show_release(r->asking.base, answer, before, &r->sheet.bytes);
+}
+
+/* The same with a copy of the image, as it was. */
+static enum status release_copied(struct releasing *r, const char *out)
+{
+	struct bytes before;
+	if (!copy_bytes(&r->image.bytes, &before))
+		return fail_no_memory(r->image.name);
+	const enum status status = release_to(r, &before, out);
+	free(before.at);
+	return status;
 }
 
 /* The three files loaded, released, and let go. */
@@ -51,7 +65,7 @@ static enum status release_files(struct releasing *r, const char *out)
 	enum status status = FAILED;
 	if (load(r->image.name, &r->image.bytes) && load(r->sheet.name, &r->sheet.bytes) &&
 	    load_owners(r->owners.name, &r->owners))
-		status = release_to(r, out);
+		status = release_copied(r, out);
 	free_owners(&r->owners);
 	free(r->sheet.bytes.at);
 	free(r->image.bytes.at);

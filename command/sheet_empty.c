@@ -19,7 +19,7 @@ static enum status save_empty(struct named *image, const char *out)
 	if (!move_alone(&image->bytes, pajurenda_field(reading, PAJURENDA_READ_BASE), answer))
 		return fail_answer();
 	pajurenda_empty_sheet(reading, empty);
-	return save_sheet(out, &sheet);
+	return save_sheet(out, &sheet, NULL);
 }
 
 /* sheet empty IMAGE OUT */

@@ -1,6 +1,7 @@
 /*
- * The lines of a text that say which image its sheet is for, as `read` and `sheet show` print them.
- * Each is put into the draft, and the library is asked whether that is still the image's.
+ * The lines of a text that say which image it is for, as `read`, `sheet start` and `sheet show` write them.
+ * Each is put into the draft, and the library is asked whether that is still the image's. A text
+ * without them could be that of any revision, where the same offsets are other settings.
  */
 #include <inttypes.h>
 #include <stdio.h>
@@ -17,11 +18,13 @@ static const struct part parts[] = {
 
 #define PARTS (sizeof parts / sizeof parts[0])
 
-/* The part that a word names; NULL where it is none. */
-const struct part *find_part(const char *word)
+/* The part that a line's first word names; NULL where it is none. */
+const struct part *find_part(const char *line)
 {
+	const char *word = line + strspn(line, " \t");
+	const size_t length = strcspn(word, " \t#");
 	for (size_t i = 0; i < PARTS; i++)
-		if (strcmp(parts[i].name, word) == 0)
+		if (strlen(parts[i].name) == length && strncmp(parts[i].name, word, length) == 0)
 			return &parts[i];
 	return NULL;
 }
@@ -87,6 +90,7 @@ static char *pass_text(char *rest, const uint8_t *identity)
 /* A line that names a part: its value and no word more, and the library takes it. */
 enum status take_part(struct making *m, const struct part *part, char *rest)
 {
+	(void)next_word(&rest);
 	const char *word = next_word(&rest);
 	if (word == NULL)
 		return fail_line(&m->text, "a value is missing after the name");
@@ -98,7 +102,42 @@ enum status take_part(struct making *m, const struct part *part, char *rest)
 	if (word != NULL)
 		return fail_word(&m->text, "", word, "is one word too many");
 	const uint32_t number = ask(m);
+	m->parts |= 1U << (part - parts);
 	if (number == PAJURENDA_IDENTITY)
 		return refuse_part(m, part);
 	return number == PAJURENDA_ACCEPTED ? FINE : fail_answer();
+}
+
+/* A text must have the part: the extended number only where the image has one. */
+static bool is_missing(const struct making *m, size_t part, const uint8_t *own)
+{
+	return (m->parts >> part & 1) == 0 &&
+	       (parts[part].width != 2 || pajurenda_number(own + parts[part].at, 2) != 0);
+}
+
+/* The text has every line that says which image it is for; FAILED after the lines that are missing. */
+enum status want_parts(const struct making *m, const char *command)
+{
+	uint8_t own[PAJURENDA_EMPTY_SHEET];
+	bool missing = false;
+	pajurenda_empty_sheet(m->reading, own);
+	for (size_t i = 0; i < PARTS; i++) {
+		if (!is_missing(m, i, own))
+			continue;
+		if (!missing) {
+			fputs("pajurenda: ", stderr);
+			say_name(m->text.name);
+			fputs(": it does not say which image it is for. If its offsets are those of ", stderr);
+			say_name(m->image.name);
+			fputs(" itself, write into it:\n", stderr);
+		}
+		missing = true;
+		fputs("    ", stderr);
+		say_part(&parts[i], own);
+		fputc('\n', stderr);
+	}
+	if (missing)
+		fprintf(stderr, "pajurenda: these lines keep a text of one revision from being used with another, "
+			"where the same offsets are other settings (see pajurenda %s --help)\n", command);
+	return missing ? FAILED : FINE;
 }

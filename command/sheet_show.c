@@ -4,10 +4,13 @@
 #include <stdio.h>
 #include <stdlib.h>
 
+#include "changes.h"
 #include "files.h"
 #include "json.h"
+#include "json_names.h"
 #include "letters.h"
 #include "messages.h"
+#include "naming.h"
 #include "released.h"
 #include "sheets.h"
 #include "show.h"
@@ -15,43 +18,17 @@
 /* The sheet, the image if there is one, and how many entries would change it. */
 struct showing {
 	struct named sheet, image;
+	struct naming naming;
 	bool beside;
 	uint64_t changing;
 };
 
-/* How many of the bytes at two places differ. */
-static uint64_t count_changed(const uint8_t *one, const uint8_t *other, uint64_t count)
-{
-	uint64_t changed = 0;
-	for (uint64_t i = 0; i < count; i++)
-		changed += one[i] != other[i];
-	return changed;
-}
-
-/* An entry taken apart: what it asks for, its bytes, and those that it would replace, or NULL. */
+/* An entry taken apart: what it asks for, its bytes, and those that it would replace, NULL where there is
+   no image. */
 struct taken {
-	struct asked asked;
-	const uint8_t *body, *replaced;
-	uint64_t changed;
+	uint64_t index;
+	struct change change;
 };
-
-/* What an entry would replace in the image, where the library finds it. */
-static bool find_replaced(struct showing *showing, struct taken *taken)
-{
-	const struct bytes *image = &showing->image.bytes;
-	const struct asked *asked = &taken->asked;
-	uint8_t answer[PAJURENDA_SETTING_BYTES] = { 0 };
-	if (pajurenda_setting(image->at, image->length, asked->offset, asked->length, answer,
-			      sizeof answer) != PAJURENDA_ACCEPTED)
-		return false;
-	const uint64_t place = pajurenda_field(answer, PAJURENDA_SETTING_PLACE);
-	if (!has_bytes(image, place, asked->length))
-		return false;
-	taken->replaced = image->at + place;
-	taken->changed = count_changed(taken->replaced, taken->body, asked->length);
-	showing->changing += taken->changed != 0;
-	return true;
-}
 
 /* An entry of a sheet that the library has taken; false where the answer can't be the library's. */
 static bool take_entry(struct showing *showing, uint64_t index, struct taken *taken)
@@ -59,29 +36,48 @@ static bool take_entry(struct showing *showing, uint64_t index, struct taken *ta
 	const struct bytes *sheet = &showing->sheet.bytes;
 	const uint64_t at = PAJURENDA_EMPTY_SHEET + PAJURENDA_ENTRY_BYTES * index;
 	const uint64_t body = number_at(sheet, at + 6, 2);
-	*taken = (struct taken){ .asked = { .index = index, .offset = number_at(sheet, at, 4),
-					    .length = number_at(sheet, at + 4, 2) } };
-	if (!has_bytes(sheet, body, taken->asked.length))
+	taken->index = index;
+	taken->change = (struct change){ .offset = number_at(sheet, at, 4),
+					 .length = (size_t)number_at(sheet, at + 4, 2) };
+	if (!has_bytes(sheet, body, taken->change.length))
 		return false;
-	taken->body = sheet->at + body;
-	return !showing->beside || find_replaced(showing, taken);
+	taken->change.new = sheet->at + body;
+	if (!showing->beside)
+		return true;
+	if (!entry_change(&showing->image.bytes, sheet, index, &taken->change))
+		return false;
+	showing->changing += count_changed(&taken->change) != 0;
+	return true;
 }
 
 /* ---- as a text ---- */
 
-/* An entry's line: its offset and its bytes, and what they replace. */
-static void show_entry(const struct taken *taken)
+/* In a comment: position, both numbers, how much changes, and the names. */
+static void show_comment(const struct showing *showing, const struct change *change)
 {
-	const size_t length = (size_t)taken->asked.length;
-	printf("%" PRIu64 " ", taken->asked.offset);
-	show_hex(stdout, taken->body, length);
-	if (taken->replaced != NULL) {
-		fputs(" # replaces ", stdout);
-		show_hex(stdout, taken->replaced, length);
-		if (taken->changed == 0)
-			fputs(", changes nothing", stdout);
-		else
-			printf(", changes %" PRIu64 " of %zu bytes", taken->changed, length);
+	const uint64_t changed = count_changed(change);
+	printf(" # at %" PRIu64, change->place);
+	put_number_of(stdout, ", ", change->old, change->length);
+	if (changed != 0)
+		put_number_of(stdout, " -> ", change->new, change->length);
+	if (changed == 0)
+		fputs(", changes nothing", stdout);
+	else
+		printf(", changes %" PRIu64 " of %zu bytes", changed, change->length);
+	put_names(stdout, names_of(&showing->naming), change, " -> ");
+}
+
+/* An entry's line: its offset and its bytes, and what they replace. */
+static void show_entry(const struct showing *showing, const struct taken *taken)
+{
+	const struct change *change = &taken->change;
+	show_offset(stdout, change->offset);
+	putchar(' ');
+	show_apart(stdout, change->new, change->length);
+	if (change->old != NULL) {
+		fputs(" was ", stdout);
+		show_apart(stdout, change->old, change->length);
+		show_comment(showing, change);
 	}
 	putchar('\n');
 }
@@ -91,11 +87,12 @@ static enum status show_text_of(struct showing *showing, const uint8_t *judged)
 {
 	const uint64_t count = pajurenda_field(judged, PAJURENDA_SHEET_COUNT);
 	struct taken taken;
+	put_naming(stdout, "# ", &showing->naming);
 	show_head(judged, " # version ");
 	for (uint64_t i = 0; i < count && ferror(stdout) == 0; i++) {
 		if (!take_entry(showing, i, &taken))
 			return fail_answer();
-		show_entry(&taken);
+		show_entry(showing, &taken);
 	}
 	printf("# entries %" PRIu64, count);
 	if (showing->beside)
@@ -106,16 +103,19 @@ static enum status show_text_of(struct showing *showing, const uint8_t *judged)
 
 /* ---- as a document ---- */
 
-/* An entry's object; what it replaces where there is an image. */
-static void write_entry(const struct taken *taken)
+/* An entry's object; where there is an image its place there, what it replaces, and its names. */
+static void write_entry(const struct showing *showing, const struct taken *taken)
 {
-	printf("%s\n    {\"offset\": %" PRIu64 ", \"length\": %" PRIu64 ", \"bytes\": ",
-	       taken->asked.index == 0 ? "" : ",", taken->asked.offset, taken->asked.length);
-	json_bytes(taken->body, taken->asked.length);
-	if (taken->replaced != NULL) {
+	const struct change *change = &taken->change;
+	printf("%s\n    {\"offset\": %" PRIu64 ", \"length\": %zu, \"bytes\": ",
+	       taken->index == 0 ? "" : ",", change->offset, change->length);
+	json_bytes(change->new, change->length);
+	if (change->old != NULL) {
 		fputs(", \"replaces\": ", stdout);
-		json_bytes(taken->replaced, taken->asked.length);
-		printf(", \"changes\": %" PRIu64, taken->changed);
+		json_bytes(change->old, change->length);
+		printf(", \"changes\": %" PRIu64 ", \"place\": %" PRIu64, count_changed(change),
+		       change->place);
+		json_names(names_of(&showing->naming), change, "replaces", "bytes");
 	}
 	putchar('}');
 }
@@ -128,11 +128,12 @@ static enum status write_judged(struct showing *showing, const uint8_t *judged)
 	json_parts(pajurenda_sheet_identity(judged), pajurenda_field(judged, PAJURENDA_SHEET_REVISION),
 		   pajurenda_field(judged, PAJURENDA_SHEET_EXTENDED));
 	json_number("length", showing->sheet.bytes.length);
+	json_naming(&showing->naming);
 	fputs(",\n  \"entries\": [", stdout);
 	for (uint64_t i = 0; i < count && ferror(stdout) == 0; i++) {
 		if (!take_entry(showing, i, &taken))
 			return fail_answer();
-		write_entry(&taken);
+		write_entry(showing, &taken);
 	}
 	printf("%s]", count == 0 ? "" : "\n  ");
 	return FINE;
@@ -182,9 +183,21 @@ static enum status refuse_shown(const struct showing *showing, uint32_t number, 
 	return number == PAJURENDA_SHEET ? refuse_sheet(&showing->sheet) : fail_answer();
 }
 
-/* A loaded sheet judged and shown, beside a loaded image where there is one. */
-static enum status show_sheet(struct showing *showing, bool json)
+/* The names of an image that the library has taken the sheet for; true where none are asked for. */
+static bool name_settings(struct showing *showing, uint32_t number, const struct options *options)
 {
+	uint8_t reading[PAJURENDA_READ_BYTES] = { 0 };
+	const struct bytes *image = &showing->image.bytes;
+	if (options->names == NULL || number != PAJURENDA_ACCEPTED)
+		return true;
+	(void)pajurenda_read(image->at, image->length, reading, sizeof reading);
+	return load_naming(options, &showing->image, reading, &showing->naming);
+}
+
+/* A loaded sheet judged and shown, beside a loaded image where there is one. */
+static enum status show_sheet(struct showing *showing, const struct options *options)
+{
+	const bool json = (options->given & JSON) != 0;
 	const struct bytes *sheet = &showing->sheet.bytes;
 	const uint64_t base = showing->beside ? base_of(&showing->image.bytes) : 0;
 	uint8_t judged[PAJURENDA_SHEET_BYTES] = { 0 };
@@ -192,6 +205,8 @@ static enum status show_sheet(struct showing *showing, bool json)
 	if (number == PAJURENDA_ACCEPTED)
 		number = pajurenda_sheet(sheet->at, sheet->length, judged, sizeof judged);
 	keep_refusals(json);
+	if (!name_settings(showing, number, options))
+		return FAILED;
 	if (json && number != PAJURENDA_SHORT && write_sheet(showing, number, judged) != FINE)
 		return FAILED;
 	if (number != PAJURENDA_ACCEPTED)
@@ -199,16 +214,20 @@ static enum status show_sheet(struct showing *showing, bool json)
 	return json ? FINE : show_text_of(showing, judged);
 }
 
-/* sheet show [--json] SHEET [IMAGE] */
+/* sheet show [--json] [--names FILE] SHEET [IMAGE] */
 enum status do_sheet_show(char **word, const struct options *options)
 {
 	struct showing showing = { .sheet = { .name = word[0] }, .image = { .name = word[1] },
 				   .beside = word[1] != NULL };
+	if (options->names != NULL && !showing.beside)
+		return fail_usage("sheet show", "--names goes with IMAGE: names are held against its settings",
+				  "", "");
 	if (!load(showing.sheet.name, &showing.sheet.bytes))
 		return FAILED;
 	const enum status status =
 		!showing.beside || load(showing.image.name, &showing.image.bytes)
-			? show_sheet(&showing, (options->given & JSON) != 0) : FAILED;
+			? show_sheet(&showing, options) : FAILED;
+	end_naming(&showing.naming);
 	free(showing.image.bytes.at);
 	free(showing.sheet.bytes.at);
 	return status;

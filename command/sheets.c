@@ -62,27 +62,25 @@ struct bytes lay_out(struct draft *draft)
 
 /* ---- whole sheets ---- */
 
-/* Which image a sheet is for, by the answer of pajurenda_sheet, in the lines that `read` has; before
-   the version, which only follows from the others, stands this. */
+/* Which image a sheet is for, by the answer of pajurenda_sheet. */
 void show_head(const uint8_t *judged, const char *before)
 {
-	const uint64_t revision = pajurenda_field(judged, PAJURENDA_SHEET_REVISION);
-	const uint64_t extended = pajurenda_field(judged, PAJURENDA_SHEET_EXTENDED);
-	fputs("identity ", stdout);
-	show_identity(stdout, pajurenda_sheet_identity(judged));
-	printf("\nrevision 0x%08" PRIX64 "\nextended 0x%04" PRIX64 "%s", revision, extended, before);
-	show_image_version(stdout, revision, extended);
-	putchar('\n');
+	show_bound(stdout, pajurenda_sheet_identity(judged),
+		   pajurenda_field(judged, PAJURENDA_SHEET_REVISION),
+		   pajurenda_field(judged, PAJURENDA_SHEET_EXTENDED), before);
 }
 
-/* A sheet that the library has accepted for its image, written and told. */
-enum status save_sheet(const char *out, const struct bytes *sheet)
+/* A sheet that the library has accepted for its image, written and told; names, where there are some,
+   first. */
+enum status save_sheet(const char *out, const struct bytes *sheet, const struct naming *naming)
 {
 	uint8_t judged[PAJURENDA_SHEET_BYTES] = { 0 };
 	if (pajurenda_sheet(sheet->at, sheet->length, judged, sizeof judged) != PAJURENDA_ACCEPTED)
 		return fail_answer();
 	if (!save(out, sheet))
 		return FAILED;
+	if (naming != NULL)
+		put_naming(stdout, "", naming);
 	show_head(judged, "\nversion ");
 	printf("entries %" PRIu64 "\n", pajurenda_field(judged, PAJURENDA_SHEET_COUNT));
 	printf("length %zu\n", sheet->length);

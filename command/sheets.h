@@ -5,6 +5,7 @@
 #include <stdbool.h>
 
 #include "command.h"
+#include "naming.h"
 #include "pajurenda.h"
 
 /* What a length's 16 bits hold, and room for one entry more than any sheet that the library took:
@@ -35,7 +36,7 @@ bool add_byte(struct draft *draft, uint8_t byte);
 void put_number(uint8_t *at, size_t width, uint64_t value);
 struct bytes lay_out(struct draft *draft);
 void show_head(const uint8_t *judged, const char *before);
-enum status save_sheet(const char *out, const struct bytes *sheet);
+enum status save_sheet(const char *out, const struct bytes *sheet, const struct naming *naming);
 bool move_alone(struct bytes *image, uint64_t base, uint8_t *answer);
 
 #endif

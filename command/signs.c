@@ -5,10 +5,7 @@
  */
 #include "signs.h"
 
-#include <stdbool.h>
 #include <string.h>
-
-#define NO_SIGN ((uint32_t)0xFFFD)
 
 /* How many bytes a sign has by its first, and the bits of it that are the sign's; 0 for no sign. */
 static size_t length_by(unsigned char first, uint32_t *bits)
@@ -26,7 +23,7 @@ static bool is_sign(uint32_t number, size_t length)
 }
 
 /* The next sign of a text that isn't at its end, and how many bytes it has. */
-static size_t take_sign(const char *text, uint32_t *sign)
+size_t take_sign(const char *text, uint32_t *sign)
 {
 	const size_t length = length_by((unsigned char)text[0], sign);
 	size_t k = 1;
@@ -39,7 +36,7 @@ static size_t take_sign(const char *text, uint32_t *sign)
 }
 
 /* Signs that show nothing by themselves: controls, marks of direction, joiners, spaces of no width. */
-static bool is_hidden(uint32_t sign)
+bool is_hidden(uint32_t sign)
 {
 	static const uint32_t hidden[][2] = {
 		{ 0x00, 0x1F }, { 0x7F, 0x9F }, { 0xAD, 0xAD }, { 0x34F, 0x34F }, { 0x61C, 0x61C },

@@ -97,7 +97,7 @@ char *next_word(char **rest)
 }
 
 /* The start of a message on the line at hand. */
-static void begin_fault(const struct text *text)
+void begin_fault(const struct text *text)
 {
 	fputs("pajurenda: ", stderr);
 	say_name(text->name);
@@ -113,7 +113,7 @@ enum status fail_line(const struct text *text, const char *fault)
 }
 
 /* A word in quotes after its name, which may be empty; of a long one its start. */
-static void say_word(const char *name, const char *word)
+void say_word(const char *name, const char *word)
 {
 	char shown[MOST_SHOWN + 1] = "";
 	strncat(shown, word, MOST_SHOWN);

@@ -26,6 +26,8 @@ struct text text_of(const char *name, const struct bytes *file);
 char *next_line(struct text *text);
 bool is_clean(const struct text *text, const char *line);
 char *next_word(char **rest);
+void begin_fault(const struct text *text);
+void say_word(const char *name, const char *word);
 enum status fail_line(const struct text *text, const char *fault);
 enum status fail_word(const struct text *text, const char *name, const char *word,
 		      const char *fault);

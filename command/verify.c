@@ -4,6 +4,7 @@
 #include <inttypes.h>
 #include <stdio.h>
 
+#include "changes.h"
 #include "letters.h"
 #include "messages.h"
 #include "ranges.h"
@@ -11,15 +12,28 @@
 /* How much of a range's bytes stands in a line; --text and --json have all. */
 #define MOST_SHOWN 16
 
-/* The sheets in the order they were applied, each with its count of entries. */
-static void show_sheets(const struct check *check)
+/* The verdict, and what must be beside it. */
+void show_verdict(const struct check *check)
+{
+	const char *required = required_of(check);
+	printf("verdict %s%s%s\n", verdict_of(check), required == NULL ? "" : ", ",
+	       required == NULL ? "" : required);
+}
+
+/* The sheets in the order they were applied, each with its count of entries and what they replace in the maker's
+   image. */
+static enum status show_sheets(const struct check *check)
 {
 	for (size_t i = 0; i < check->sheet_count; i++) {
 		printf("sheet %zu entries %" PRIu64 " ", i + 1,
 		       number_at(&check->sheets[i].bytes, 12, 2));
 		put_name(stdout, check->sheets[i].name);
 		putchar('\n');
+		if (show_changes(&check->vendor.bytes, &check->sheets[i].bytes,
+				 names_of(&check->naming)) != FINE)
+			return FAILED;
 	}
+	return FINE;
 }
 
 /* A line for each range that differs from the release, until one can't be written. */
@@ -35,13 +49,16 @@ static void show_ranges(const struct check *check)
 /* The whole output where every file was taken: the verdict, then what it is about. */
 enum status show_verify(const struct check *check)
 {
-	printf("verdict %s\n", verdict_of(check));
+	put_naming(stdout, "", &check->naming);
+	show_verdict(check);
+	show_must(&check->must);
 	printf("base 0x%08" PRIX64 "\n", count_of(check, PAJURENDA_AUDIT_BASE));
 	printf("move %" PRId64 "\n", pajurenda_signed_field(check->moved, PAJURENDA_RELEASE_MOVE));
-	show_sheets(check);
+	if (show_sheets(check) != FINE)
+		return FAILED;
 	printf("settings %" PRIu64 "\n", count_of(check, PAJURENDA_AUDIT_SETTINGS));
 	printf("strays %" PRIu64 "\n", count_of(check, PAJURENDA_AUDIT_STRAYS));
 	printf("bits %" PRIu64 "\n", count_of(check, PAJURENDA_AUDIT_BITS));
 	show_ranges(check);
-	return is_good(check) ? FINE : UNEXPLAINED;
+	return status_of(check);
 }

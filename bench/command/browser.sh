@@ -45,7 +45,7 @@ for (const map of document.querySelectorAll(".map"))
 	}
 const word = document.querySelector(".word"), style = getComputedStyle(word);
 say("word", word.innerText + " " + (parseFloat(style.fontSize) >= 26 ? "large" : "small"));
-for (const row of document.querySelectorAll(".ranges tbody tr, .files tbody tr, .entries tbody tr"))
+for (const row of document.querySelectorAll(".ranges tbody tr, .files tbody tr, .entries tbody tr, .needs tbody tr"))
 	say("row", Array.from(row.cells).map(cell => cell.innerText.replace(/\s+/g, " ")).join("|"));
 parent.postMessage(lines.join("\n"), "*");
 </script>
@@ -70,7 +70,7 @@ print(html.unescape(body))' <"$work/dom" >"$work/measured" 2>"$work/err" || fail
 shown() {
 	measured "$1" "$2"
 	"$python" -I -S "$here/read-page.py" "$1" ${3:+"$3"} >"$work/page" 2>"$work/err" || fail "no such page"
-	sed -n 's/^\(file\|ranges\|entries\) /row /p' "$work/page" | tr -s ' ' | sort >"$work/wanted"
+	sed -n 's/^\(file\|ranges\|entries\|needs\) /row /p' "$work/page" | tr -s ' ' | sort >"$work/wanted"
 	sed -n '/^row /p' "$work/measured" | sort >"$work/rows"
 	same "$work/rows" "$work/wanted"
 	sed -n 's/^marks /seen /p' "$work/page" | sort >"$work/wanted"
@@ -146,6 +146,10 @@ try_browser() {
 	flip shipped.bin 4300 4340
 	flip shipped.bin 6000 6100
 	opened not-as-released 1 verify vendor.bin june.sheet july.sheet shipped.bin
+	cp "$work/accident/A.bsf" "$work/accident/B.must" "$work/accident/B" .
+	cp "$work/accident/shipped" shipped.bin
+	cp "$work/accident/sheet" june.sheet
+	opened not-as-required 1 verify --names A.bsf --must B.must B june.sheet shipped.bin
 	cp "$root/crates/run_short/data/vendor.bin" "a <name> that is long enough to need two lines on a phone, and one without any blank: $(printf '%080d' 7).bin"
 	cp "$root/crates/run_short/data/shipped.bin" shipped.bin
 	opened many 1 audit a*.bin shipped.bin

@@ -122,6 +122,12 @@ fails_with() {
 	says "$line"
 }
 
+# what an audit that explains everything adds
+unchecked='not checked whether the settings are the wanted ones; verify VENDOR SHEET.. SHIPPED says it by the sheets, --must FILE by a text'
+
+# bound IMAGE: the lines that bind a text to it, as `read` shows them
+bound() { run read "$1" | grep -e '^identity ' -e '^revision ' -e '^extended '; }
+
 # picture FOLDER: every name and every byte in it
 picture() { (cd "$1" && find . | sort && find . -type f -exec cksum {} + | sort); }
 

@@ -18,20 +18,23 @@ offers() {
 	count=$((count + 1))
 }
 
-offers 'audit|handoff|help|owners|read|release|setting|sheet|station|verify' ''
+offers 'audit|handoff|help|must|owners|read|release|setting|sheet|station|verify' ''
 offers 'audit' a
 offers 'read|release' r
 offers 'setting|sheet|station' s
 offers '--help|--version' -
 offers '--version' --v
-offers 'audit|handoff|owners|read|release|setting|sheet|station|verify' help ''
+offers 'audit|handoff|must|owners|read|release|setting|sheet|station|verify' help ''
 offers '' help sheet ''
 offers '' help owners ''
 offers 'handoff|help' h
 offers '' help read ''
 offers '--help|--json|--modules|--words' read -
-offers '--bytes|--help|--json|--list|--ranges|--report|--reports|--text' audit -
-offers '--help|--json|--list|--owner|--owners|--report|--reports|--text' verify -
+offers '--bytes|--help|--json|--list|--must|--names|--names-strict|--ranges|--report|--reports|--text' audit -
+offers '--help|--json|--list|--must|--names|--names-strict|--owner|--owners|--report|--reports|--text' verify -
+offers 'a b|image' verify --must ''
+offers 'a b|image' audit --names = ''
+offers '--names|--names-strict' audit --n
 offers '1|2' verify --owner ''
 offers 'a b|image' verify --owners ''
 offers 'a b|image' verify --report = ''
@@ -49,9 +52,20 @@ offers 'verify' v
 offers '--help|--json' handoff -
 offers '--help|--owner|--owners' release -
 offers '--help' sheet -
-offers '--help' sheet make -
-offers '--help|--json' sheet show -
-offers '--help' setting -
+offers '--help|--names|--names-strict' sheet make -
+offers '--help|--names|--names-strict' sheet start -
+offers '--help|--json|--names|--names-strict' sheet show -
+offers '--help|--names|--names-strict' setting -
+offers '--help|--names|--names-strict' owners show -
+offers '--help|--names|--names-strict' must show -
+offers 'show' must ''
+offers 'a b|image' must show ''
+offers 'a b|image' must show --names image image ''
+offers '' must show image image ''
+offers '' must nonsense ''
+offers 'must' m
+offers 'a b|image' sheet start image ''
+offers '' sheet start image image ''
 offers 'a b|image' read ''
 offers 'image' read i
 offers 'a b' read 'a '
@@ -66,7 +80,7 @@ offers 'keep' release image image ''
 offers '' release image image 0
 offers 'a b|image' release image image keep ''
 offers '' release image image keep image ''
-offers 'empty|make|show' sheet ''
+offers 'empty|make|show|start' sheet ''
 offers 'make' sheet m
 offers 'a b|image' sheet empty ''
 offers 'a b|image' sheet empty image ''

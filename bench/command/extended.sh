@@ -86,7 +86,7 @@ try_short_headers() {
 	values 5 b "$short" read b
 	values 5 b "$short" setting b 40 2
 	values 5 b "$short" audit b s
-	keeps "$o" values 5 b "$short" release "$all" --owner=1 b "$work/nothing" 0 "$o/out"
+	keeps "$o" values 5 b "$short" release "$all" --owner=1 b "$work/nothing" 0x0 "$o/out"
 	keeps "$o" values 5 b "$short" release "$all" --owner=1 b good keep "$o/out"
 }
 
@@ -94,7 +94,7 @@ try_short_headers() {
 applies() {
 	poked "$1" "$work/expected" 4136 '\001\000'
 	works 0 release "$all" --owner=1 "$1" "$2" keep "$o/applied"
-	prints 'base 0xFFF80000' 'move 0' 'entries 1'
+	prints 'base 0xFFF80000' 'move 0' 'entries 1' 'set 0x0028 at 4136: 01 05 -> 01 00, 0x0501 -> 0x0001'
 	same "$o/applied" "$work/expected"
 }
 
@@ -149,7 +149,7 @@ try_around_numbers() {
 	changed b b2 16 31
 	not_for b2 "$(parts 0x0201 1.2.515.260)" n "$(parts 0xBBAA 1.2.47875.43524)"
 	changed good b 14 170 15 187 16 31
-	keeps "$o" values 17 b "entry 0 (counted from 0) has offset 31 length 2, the region's size z is 400" release "$all" --owner=1 n b keep "$o/out"
+	keeps "$o" values 17 b "entry 0 (counted from 0) has offset 0x001F length 2, the region's size z is 0x0190" release "$all" --owner=1 n b keep "$o/out"
 	changed good b 14 170 15 187 8 5
 	not_for b '54524541542D3031 "TREAT-01" revision 0x01020305 extended 0xBBAA version 1.2.47875.43525' \
 		n "$(parts 0xBBAA 1.2.47875.43524)"

@@ -10,7 +10,7 @@ try_missing() {
 		fails_with "$reason" setting "$file" 40 2
 		fails_with "$reason" audit "$file" "$shipped"
 		fails_with "$reason" audit "$vendor" "$file"
-		keeps "$o" fails_with "$reason" release "$all" --owner=1 "$file" "$work/nothing" 0 "$o/out"
+		keeps "$o" fails_with "$reason" release "$all" --owner=1 "$file" "$work/nothing" 0x0 "$o/out"
 		keeps "$o" fails_with "$reason" release "$all" --owner=1 "$file" "$work/sheet" keep "$o/out"
 		keeps "$o" fails_with "$reason" release "$all" --owner=1 "$vendor" "$file" keep "$o/out"
 		keeps "$o" fails_with "$reason" sheet empty "$file" "$o/out"
@@ -26,12 +26,12 @@ try_wrong_out() {
 	mkdir "$o/folder"
 	ln -s nowhere "$o/dangling"
 	mkfifo "$o/pipe"
-	keeps "$o" errs 'Is a directory' release "$all" --owner=1 "$vendor" "$work/nothing" 0 "$o/folder"
-	keeps "$o" errs 'No such file' release "$all" --owner=1 "$vendor" "$work/nothing" 0 "$o/missing/out"
-	keeps "$o" errs 'No such file' release "$all" --owner=1 "$vendor" "$work/nothing" 0 "$o/dangling"
-	(cd "$o" && keeps "$o" errs 'No such file' release "$all" --owner=1 "$vendor" "$work/nothing" 0 '')
-	keeps "$o" errs 'Not a directory' release "$all" --owner=1 "$vendor" "$work/nothing" 0 "$o/out/below"
-	keeps "$o" errs 'Not a regular file' release "$all" --owner=1 "$vendor" "$work/nothing" 0 "$o/pipe"
+	keeps "$o" errs 'Is a directory' release "$all" --owner=1 "$vendor" "$work/nothing" 0x0 "$o/folder"
+	keeps "$o" errs 'No such file' release "$all" --owner=1 "$vendor" "$work/nothing" 0x0 "$o/missing/out"
+	keeps "$o" errs 'No such file' release "$all" --owner=1 "$vendor" "$work/nothing" 0x0 "$o/dangling"
+	(cd "$o" && keeps "$o" errs 'No such file' release "$all" --owner=1 "$vendor" "$work/nothing" 0x0 '')
+	keeps "$o" errs 'Not a directory' release "$all" --owner=1 "$vendor" "$work/nothing" 0x0 "$o/out/below"
+	keeps "$o" errs 'Not a regular file' release "$all" --owner=1 "$vendor" "$work/nothing" 0x0 "$o/pipe"
 	keeps "$o" errs 'Not a regular file' release "$all" --owner=1 "$vendor" "$work/sheet" keep /dev/null
 	[ -c /dev/null ] || fail "/dev/null is no device any more"
 	rm -r "$o/folder" "$o/dangling" "$o/pipe"

@@ -5,6 +5,7 @@
 printf 'TREAT-01\004\003\002\001\001\000\000\000\050\000\000\000\002\000\030\000\001\000' >"$work/sheet"
 printf 'TREAT-01\004\003\002\001\000\000\000\000' >"$work/nothing"
 printf '32 368 1\n' >"$work/all"
+printf 'identity 54524541542D3031\nrevision 0x01020304\n' >"$work/bound"
 all=--owners=$work/all
 printf 'what was there before\n' >"$work/old"
 : >"$work/empty"

@@ -22,6 +22,12 @@ def hexed(value, digits):
 def octets(value):
     assert re.fullmatch("([0-9A-F]{2})+", value), value
     return value
+def apart(value):
+    return " ".join(re.findall("..", octets(value)))
+def number(value):
+    return "0x" + "".join(reversed(re.findall("..", value))) if len(value) in (4, 8, 16) else ""
+def valued(value, setting):
+    return apart(value) + (" = " + number(value) if setting and number(value) else "")
 def parts(d, version):
     text = "" if d["identity_text"] is None else ' "%s"' % d["identity_text"]
     print("identity " + octets(d["identity"]) + text)
@@ -47,28 +53,35 @@ def read(d):
         assert word["index"] == n
         print("patch word %d entry %s at %d width %d is %s" % (n, hexed(word["entry"], 8), whole(word["place"]), whole(word["width"]), hexed(word["value"], 8)))
 def sheet(d):
-    has(d, "command", "sheet", "image", "number", "name", "index", *PARTS, "length", "entries")
+    has(d, "command", "sheet", "image", "number", "name", "index", *PARTS, "length", "names", "entries")
+    assert d["names"] is None
     parts(d, " # version ")
     beside, changing = d["image"] is not None, 0
     for entry in d["entries"]:
-        has(entry, "offset", "length", "bytes", *(["replaces", "changes"] if beside else []))
+        has(entry, "offset", "length", "bytes", *(["replaces", "changes", "place", "names"] if beside else []))
         assert len(octets(entry["bytes"])) == 2 * whole(entry["length"])
-        line = "%d %s" % (whole(entry["offset"]), entry["bytes"])
+        line = "0x%04X %s" % (whole(entry["offset"]), apart(entry["bytes"]))
         if beside:
             assert len(octets(entry["replaces"])) == len(entry["bytes"])
             changing += entry["changes"] > 0
-            line += " # replaces " + entry["replaces"]
+            assert entry["names"] is None
+            line += " was %s # at %d" % (apart(entry["replaces"]), whole(entry["place"]))
+            old, new = number(entry["replaces"]), number(entry["bytes"])
+            line += ", " + old + (" -> " + new if entry["changes"] else "") if old else ""
             line += ", changes %d of %d bytes" % (entry["changes"], entry["length"]) if entry["changes"] else ", changes nothing"
         print(line)
     print("# entries %d" % len(d["entries"]) + (", of which %d would change the image" % changing if beside else ""))
 def ranges(d, verify):
     for r in d["ranges"]:
-        has(r, "kind", "first", "last", "length", "place", "offset", "index", "module", "file", "should", "is", *(["set_by", "makers"] if verify else []))
+        has(r, "kind", "first", "last", "length", "place", "offset", "index", "module", "file", "should", "is", *(["set_by", "makers"] if verify else []), "names")
+        assert r["names"] is None
         assert whole(r["last"]) - whole(r["first"]) + 1 == whole(r["length"]) == len(octets(r["should"])) // 2 == len(octets(r["is"])) // 2
         assert r["module"] is None and r["file"] is None
         assert (r["place"] == "settings") == (r["offset"] is not None) == (r["kind"] == "setting") and (r["place"] == "patch word") == (r["index"] is not None)
-        place = {"settings": "region offset %s" % r["offset"], "patch word": "patch word %s" % r["index"]}.get(r["place"], r["place"])
-        line = "%s %d..%d length %d %s should %s is %s" % ("S" if r["kind"] == "setting" else "X", r["first"], r["last"], r["length"], place, r["should"], r["is"])
+        place = {"settings": "region offset 0x%04X" % (r["offset"] or 0), "patch word": "patch word %s" % r["index"]}.get(r["place"], r["place"])
+        setting = r["kind"] == "setting"
+        line = "%s %d..%d length %d %s %s %s is %s" % ("S" if setting else "X", r["first"], r["last"], r["length"], place, "should" if verify else "maker's",
+            valued(r["should"], setting), valued(r["is"], setting))
         if verify and r["kind"] == "setting":
             by = r["set_by"]
             if by is None:
@@ -80,8 +93,9 @@ def ranges(d, verify):
                 line += ", entry %d of %s" % (by["entry"], d["sheets"][by["sheet"]]["file"])
         yield line
 def check(d, verify):
-    has(d, "command", "vendor", *(["sheets", "owners", "owner"] if verify else []), "shipped", "number", "name", "index", "base", "move", "settings", "strays", "bits",
-        "ranges", "verdict")
+    has(d, "command", "vendor", *(["sheets", "owners", "owner"] if verify else []), "shipped", "number", "name", "index", "names", "base", "move", "settings", "strays",
+        "bits", "ranges", "must", "required", "not_checked", "verdict")
+    assert d["names"] is None and d["must"] is None and d["required"] is None
     if verify:
         print("verdict " + d["verdict"])
     print("base " + hexed(d["base"], 8))
@@ -95,13 +109,15 @@ def check(d, verify):
         print(line)
     if not verify:
         print("verdict " + d["verdict"])
+    if d["not_checked"] is not None:
+        print("not checked " + d["not_checked"])
 assert d["command"] == sys.argv[1], d["command"]
 if d["number"] == 0:
     assert d["name"] == "ACCEPTED" and d["index"] == 0
     {"read": read, "sheet show": sheet, "audit": lambda d: check(d, False), "verify": lambda d: check(d, True)}[d["command"]](d)
 else:
     files = {"read": ["file"], "sheet show": ["sheet", "image"], "audit": ["vendor", "shipped"], "verify": ["vendor", "sheets", "owners", "owner", "shipped"]}[d["command"]]
-    more = ["refused", "verdict"] if d["command"] in ("audit", "verify") else []
+    more = ["refused", "required", "not_checked", "verdict"] if d["command"] in ("audit", "verify") else []
     has(d, "command", *files, "number", "name", "index", *more)
     if more:
         assert d["verdict"] == "refused" and sys.argv[2] == d["refused"], d
@@ -117,7 +133,7 @@ lines_of() {
 # said STATUS COMMAND WORDS..: the document says what the lines say
 said() {
 	works "$@"
-	cp "$work/out" "$work/wanted_lines"
+	grep -v '^set 0x' "$work/out" >"$work/wanted_lines"
 	wanted=$1
 	shift
 	works "$wanted" "$@" --json
@@ -191,11 +207,11 @@ try_audit_json() {
 		works "${pair##*:}" audit --text whole "$one" "${other%:*}"
 		sed -n '1,4p' "$work/out" >"$work/wanted_lines"
 		cat whole >>"$work/wanted_lines"
-		tail -n 1 "$work/out" >>"$work/wanted_lines"
+		sed -n '/^verdict /,$p' "$work/out" >>"$work/wanted_lines"
 		works "${pair##*:}" audit --json "$one" "${other%:*}"
 		lines_of audit
 		[ -z "$python" ] || same "$work/again" "$work/wanted_lines"
-		sed 's/ should .*//' whole >"$work/wanted_lines"
+		sed "s/ maker's .*//" whole >"$work/wanted_lines"
 		works "${pair##*:}" audit --ranges "$one" "${other%:*}"
 		grep '^[SX] ' "$work/out" >"$work/ranges" || :
 		same "$work/ranges" "$work/wanted_lines"

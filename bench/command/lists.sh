@@ -13,7 +13,7 @@ try_list() {
 	try 2 audit --list list
 	prints 'line 1 explained base 0xFFF80000 settings 0 strays 0 bits 0 v v' 'line 4 unexplained base 0x00100000 settings 1 strays 1 bits 1 v s' \
 		'line 5 refused 14 r s' 'line 6 failed v missing' 'line 7 failed v' 'line 8 failed v s s' 'line 9 refused 19 v 71' \
-		"$(sed -n 8p "$work/out")" 'pairs 8 explained 2 unexplained 1 refused 2 failed 3'
+		"$(sed -n 8p "$work/out")" 'pairs 8 explained 2 unexplained 1 refused 2 failed 3' "$unchecked"
 	case $(sed -n 8p "$work/out") in 'line 10 explained base 0x00512000 settings 8 strays 0 bits 29 v released') ;; *) fail "the last pair" ;; esac
 	says "$(run audit r s 2>&1 >/dev/null || :)" 'pajurenda: missing: No such file or directory' 'pajurenda: list: line 7: two names are wanted: VENDOR SHIPPED' \
 		'pajurenda: list: line 8: two names are wanted: VENDOR SHIPPED' "$(run audit v 71 2>&1 >/dev/null || :)"
@@ -34,7 +34,7 @@ try_list_status() {
 	printf 'v v\r\nv s' >list
 	works 1 audit --list list
 	prints 'line 1 explained base 0xFFF80000 settings 0 strays 0 bits 0 v v' 'line 2 unexplained base 0x00100000 settings 1 strays 1 bits 1 v s' \
-		'pairs 2 explained 1 unexplained 1 refused 0 failed 0'
+		'pairs 2 explained 1 unexplained 1 refused 0 failed 0' "$unchecked"
 	what='audit --list, a pipe'
 	got=0
 	# shellcheck disable=SC2002
@@ -70,11 +70,11 @@ try_list_names() {
 	try 2 audit --list list
 	prints 'line 1 explained base 0xFFF80000 settings 0 strays 0 bits 0 a b v' 'line 2 explained base 0xFFF80000 settings 0 strays 0 bits 0 a b v' \
 		'line 3 explained base 0xFFF80000 settings 0 strays 0 bits 0 a b v' 'line 4 explained base 0xFFF80000 settings 0 strays 0 bits 0 ./#v c#' \
-		'line 5 failed a b v' 'pairs 5 explained 4 unexplained 0 refused 0 failed 1'
+		'line 5 failed a b v' 'pairs 5 explained 4 unexplained 0 refused 0 failed 1' "$unchecked"
 	list 'v \001s' 'v s\0000 x' 'v v'
 	try 2 audit --list list
 	prints 'line 1 failed v ?s' 'line 2 failed v s' 'line 3 explained base 0xFFF80000 settings 0 strays 0 bits 0 v v' \
-		'pairs 3 explained 1 unexplained 0 refused 0 failed 2'
+		'pairs 3 explained 1 unexplained 0 refused 0 failed 2' "$unchecked"
 	says 'pajurenda: list: line 1: control character 0x01' 'pajurenda: list: line 2: control character 0x00'
 	head -c 3000 /dev/urandom >list
 	what='audit --list of random bytes'
@@ -139,7 +139,7 @@ try_list_pages() {
 	list 'v v' 'v s' 'v s' 'r s'
 	try 2 audit --list list --reports pages
 	prints 'line 1 explained base 0xFFF80000 settings 0 strays 0 bits 0 v v' 'line 2 failed v s' \
-		'line 3 unexplained base 0x00100000 settings 1 strays 1 bits 1 v s' 'line 4 failed r s' 'pairs 4 explained 1 unexplained 1 refused 0 failed 2'
+		'line 3 unexplained base 0x00100000 settings 1 strays 1 bits 1 v s' 'line 4 failed r s' 'pairs 4 explained 1 unexplained 1 refused 0 failed 2' "$unchecked"
 	says 'pajurenda: pages/line-2-s.html: Is a directory' "$(run audit r s 2>&1 >/dev/null || :)" 'pajurenda: pages/line-4-s.html: Is a directory'
 	cp s pages/line-1-s.html
 	list 'v pages/line-1-s.html'

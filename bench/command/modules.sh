@@ -87,7 +87,7 @@ try_module_move() {
 	works 0 owners all three three.own
 	works 0 release --owners three.own --owner 1 three three.sheet 0x00100000 three.moved
 	works 0 audit three three.moved
-	prints 'base 0x00100000' 'settings 0' 'strays 0' 'bits 0' 'verdict explained'
+	prints 'base 0x00100000' 'settings 0' 'strays 0' 'bits 0' 'verdict explained' "$unchecked"
 	works 0 read --words three.moved
 	sed -n 's/^module \([0-9]*\) image base.* is //p; s/^module 0 relocation word 1 .* is //p; s/^patch word 2 .* is //p' "$work/out" >"$work/shown"
 	lines 0xEEE1A47F 0x0000000000100100 0xFFFFFFFF0017FFEF 0x00110000 0x0000000100100000
@@ -125,11 +125,11 @@ try_module_around_region() {
 	file=$(sed -n 's/^module 0 file \([^ ]*\) .*/\1/p' "$work/inside.lines")
 	cp "$i/inside" "$i/t"
 	flip "$i/t" 411 413
-	ranges_are "$i/inside" "$i/t" 1 "X 411..411 length 1 region header in module 0 $file" "S 412..413 length 2 region offset 32 in module 0 $file"
+	ranges_are "$i/inside" "$i/t" 1 "X 411..411 length 1 region header in module 0 $file" "S 412..413 length 2 region offset 0x0020 in module 0 $file"
 	cp "$i/inside" "$i/t"
 	flip "$i/t" 443 444
 	flip "$i/t" 348 348
-	ranges_are "$i/inside" "$i/t" 1 "X 348..348 length 1 patch word 0 in module 0 $file" "S 443..443 length 1 region offset 63 in module 0 $file" \
+	ranges_are "$i/inside" "$i/t" 1 "X 348..348 length 1 patch word 0 in module 0 $file" "S 443..443 length 1 region offset 0x003F in module 0 $file" \
 		"X 444..444 length 1 module 0 $file"
 }
 
@@ -143,7 +143,7 @@ try_module_reports() {
 	[ "$(grep '^X ' "$work/out" | sed 's/ should .*//')" = "X 436..437 length 2 relocation word 1 in module 0 $driver
 X 1128..1128 length 1 module 2 $peim" ] || fail "other ranges"
 	works 1 audit --text t.text --report t.page three t
-	grep -q "^X 436..437 length 2 relocation word 1 in module 0 $driver should EFFF is F000\$" t.text || fail "another text"
+	grep -q "^X 436..437 length 2 relocation word 1 in module 0 $driver maker's EF FF is F0 00\$" t.text || fail "another text"
 	for word in "relocation word 1 in module 0 $driver</td>" "<td class=\"at\">module 2 $peim</td>" '<dt>Modules</dt><dd>3</dd>' \
 		'<dt>Words that a move changes</dt><dd>15</dd>' '<tr><td>image base in module 2</td><td class="number">1236</td>' \
 		'0x0000000100100000' 'aria-label="Modules"'; do

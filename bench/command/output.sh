@@ -44,11 +44,12 @@ try_unheard() {
 	unheard sheet show "$work/sheet" "$vendor"
 	unheard owners show "$work/all" "$vendor"
 	unheard owners all "$vendor" "$o/heard"
-	grep -qx '32 368 1' "$o/heard" || fail "no list where standard output is lost"
+	grep -qx '0x0020 368 1' "$o/heard" || fail "no list where standard output is lost"
 	unheard sheet empty "$vendor" "$o/heard"
 	same "$o/heard" "$work/nothing"
-	unheard sheet make "$vendor" /dev/null "$o/heard"
-	same "$o/heard" "$work/nothing"
+	{ printf '40 01 00\n' && cat "$work/bound"; } >"$i/text"
+	unheard sheet make "$vendor" "$i/text" "$o/heard"
+	same "$o/heard" "$work/sheet"
 	unheard release "$all" --owner=1 "$vendor" "$work/nothing" 0x00100000 "$o/heard"
 	same "$o/heard" "$o/moved"
 }
@@ -62,7 +63,7 @@ try_all_closed() {
 	status_was 2
 	same "$o/heard" "$o/moved"
 	got=0
-	run release "$all" --owner=1 "$vendor" "$work/nothing" 1 "$o/heard" <&- >&- 2>&- || got=$?
+	run release "$all" --owner=1 "$vendor" "$work/nothing" 0x1 "$o/heard" <&- >&- 2>&- || got=$?
 	status_was 2
 	same "$o/heard" "$o/moved"
 }

@@ -3,7 +3,7 @@
 
 rule_owners='an owner list must have at most 64 ranges of 8 bytes by ascending offset, none empty, none into the next, all in offsets 32 to z-1; '\
 'each owner, and who asks, must be 1 or 2'
-z_400="the region's size z is 400"
+z_400="the region's size z is 0x0190"
 see_release='(see pajurenda release --help)'
 
 # list OCTAL: the file l
@@ -85,7 +85,7 @@ try_owner_elsewhere() {
 released_by() {
 	rm -f "$o/by"
 	works 0 "$@"
-	prints 'base 0xFFF80000' 'move 0' 'entries 1'
+	prints 'base 0xFFF80000' 'move 0' 'entries 1' 'set 0x0028 at 4136: 01 05 -> 01 00, 0x0501 -> 0x0001'
 	same "$o/by" "$work/set_v"
 }
 
@@ -131,7 +131,7 @@ try_owner_numbers() {
 	: >l
 	keeps "$o" values 23 l 'the list is fine, --owner is 0' release --owners l --owner 0 v "$work/nothing" keep "$o/out"
 	list '32 8 1\n40 8 3'
-	keeps "$o" values 23 l "line 2: offset 40 (the one before ends at 40) length 8 owner 3, ranges so far 2, $z_400" \
+	keeps "$o" values 23 l "line 2: offset 0x0028 (the one before ends at 0x0028) length 8 owner 3, ranges so far 2, $z_400" \
 		release --owners l --owner 3 v good keep "$o/out"
 }
 
@@ -144,22 +144,22 @@ try_owners_all() {
 	works 0 owners all v "$o/list"
 	prints 'region c 4096 z 400' 'ranges 1, bytes of owner 1: 368, of owner 2: 0, of nobody: 0'
 	lines '# Whose the settings are. A line has a range of the configuration region: its offset,' \
-		'# its length, its owner (1 or 2); by ascending offset, within offsets 32 to 399.' \
-		"# A byte in no range is nobody's: no release sets it." '32 368 1'
+		'# its length, its owner (1 or 2); by ascending offset, within offsets 0x0020 to 0x018F.' \
+		"# A byte in no range is nobody's: no release sets it." '0x0020 368 1'
 	same "$o/list" "$work/wanted"
 	released_by release --owners "$o/list" --owner 1 v good keep "$o/by"
 	works 0 owners show "$o/list" v
-	prints '# region c 4096 z 400' '32 368 1 # at 4128..4495' '# ranges 1, bytes of owner 1: 368, of owner 2: 0, of nobody: 0'
+	prints '# region c 4096 z 400' '0x0020 368 1 # at 4128..4495' '# ranges 1, bytes of owner 1: 368, of owner 2: 0, of nobody: 0'
 	sed 's/1$/2/' "$o/list" >l
 	released_by release --owners l --owner 2 v good keep "$o/by"
 	sized 33
 	works 0 owners all n "$o/list"
 	prints 'region c 4096 z 33' 'ranges 1, bytes of owner 1: 1, of owner 2: 0, of nobody: 0'
-	[ "$(sed -n 2p "$o/list"; tail -n 1 "$o/list")" = '# its length, its owner (1 or 2); by ascending offset, within offsets 32 to 32.
-32 1 1' ] || fail "another text for one setting"
+	[ "$(sed -n 2p "$o/list"; tail -n 1 "$o/list")" = '# its length, its owner (1 or 2); by ascending offset, within offsets 0x0020 to 0x0020.
+0x0020 1 1' ] || fail "another text for one setting"
 	works 0 owners all "$work/wide" "$o/list"
 	prints 'region c 8192 z 65536' 'ranges 1, bytes of owner 1: 65504, of owner 2: 0, of nobody: 0'
-	[ "$(tail -n 1 "$o/list")" = '32 65504 1' ] || fail "another range for the widest region"
+	[ "$(tail -n 1 "$o/list")" = '0x0020 65504 1' ] || fail "another range for the widest region"
 	works 0 owners show "$o/list" "$work/wide"
 }
 
@@ -174,7 +174,7 @@ try_owners_none() {
 	works 0 release --owners "$o/list" --owner 2 n "$work/nothing" 0x00100000 "$o/by"
 	works 0 release --owners "$work/empty" --owner 1 n "$work/nothing" 0x00100000 "$o/by"
 	list '32 1 1'
-	values 23 l "line 1: offset 32 length 1 owner 1, ranges so far 1, the region's size z is 32" owners show l n
+	values 23 l "line 1: offset 0x0020 length 1 owner 1, ranges so far 1, the region's size z is 0x0020" owners show l n
 	rm "$o/list" "$o/by"
 }
 
@@ -218,16 +218,16 @@ shows() {
 
 try_owners_show() {
 	list '40 2 2'
-	shows '# 32 8 nobody at 4128..4135' '40 2 2 # at 4136..4137' '# 42 358 nobody at 4138..4495' \
+	shows '# 0x0020 8 nobody at 4128..4135' '0x0028 2 2 # at 4136..4137' '# 0x002A 358 nobody at 4138..4495' \
 		'# ranges 1, bytes of owner 1: 0, of owner 2: 2, of nobody: 366'
 	list '32 8 1\n40 2 2\n42 2 2\n45 1 1\n399 1 2'
-	shows '32 8 1 # at 4128..4135' '40 2 2 # at 4136..4137' '42 2 2 # at 4138..4139' '# 44 1 nobody at 4140..4140' '45 1 1 # at 4141..4141' \
-		'# 46 353 nobody at 4142..4494' '399 1 2 # at 4495..4495' '# ranges 5, bytes of owner 1: 9, of owner 2: 5, of nobody: 354'
+	shows '0x0020 8 1 # at 4128..4135' '0x0028 2 2 # at 4136..4137' '0x002A 2 2 # at 4138..4139' '# 0x002C 1 nobody at 4140..4140' '0x002D 1 1 # at 4141..4141' \
+		'# 0x002E 353 nobody at 4142..4494' '0x018F 1 2 # at 4495..4495' '# ranges 5, bytes of owner 1: 9, of owner 2: 5, of nobody: 354'
 	: >l
-	shows '# 32 368 nobody at 4128..4495' '# ranges 0, bytes of owner 1: 0, of owner 2: 0, of nobody: 368'
+	shows '# 0x0020 368 nobody at 4128..4495' '# ranges 0, bytes of owner 1: 0, of owner 2: 0, of nobody: 368'
 	sed -n 's/^    \([^ ]\)/\1/p' "$work/help.owners" >l
-	example='32 8 1 # at 4128..4135'
-	shows "$example" '40 2 2 # at 4136..4137' '# 42 54 nobody at 4138..4191' '96 16 2 # at 4192..4207' '# 112 288 nobody at 4208..4495' \
+	example='0x0020 8 1 # at 4128..4135'
+	shows "$example" '0x0028 2 2 # at 4136..4137' '# 0x002A 54 nobody at 4138..4191' '0x0060 16 2 # at 4192..4207' '# 0x0070 288 nobody at 4208..4495' \
 		'# ranges 3, bytes of owner 1: 8, of owner 2: 18, of nobody: 342'
 	cp l "$work/example"
 	sed -n '/^.SH OWNER LISTS/,/^.fi/p' "$root/command/pajurenda.1" | grep -v '^[.]' >l
@@ -241,13 +241,13 @@ try_owner_forms() {
 		'40 0x0002 0x0002' '# \303\266\n40 2 2' '#\n#\n40 2 2\n#'; do
 		list "$text"
 		works 0 owners show l v
-		[ "$(grep -v '^#' "$work/out")" = '40 2 2 # at 4136..4137' ] || fail "another list of $text"
+		[ "$(grep -v '^#' "$work/out")" = '0x0028 2 2 # at 4136..4137' ] || fail "another list of $text"
 		released_by release --owners l --owner 2 v good keep "$o/by"
 	done
 	put_ranges l 40 2 2
 	[ "$(wc -c <l)" -eq 8 ] || fail "not a range of 8 bytes"
 	released_by release --owners l --owner 2 v good keep "$o/by"
-	shows '# 32 8 nobody at 4128..4135' '40 2 2 # at 4136..4137' '# 42 358 nobody at 4138..4495' \
+	shows '# 0x0020 8 nobody at 4128..4135' '0x0028 2 2 # at 4136..4137' '# 0x002A 358 nobody at 4138..4495' \
 		'# ranges 1, bytes of owner 1: 0, of owner 2: 2, of nobody: 366'
 }
 
@@ -281,22 +281,22 @@ not_taken() {
 try_owner_edges() {
 	cp "$work/old" "$o/out"
 	taken 32 1 1
-	not_taken 0 'offset 31 length 1 owner 1' 31 1 1
-	not_taken 0 'offset 31 length 2 owner 1' 31 2 1
-	not_taken 0 'offset 0 length 400 owner 2' 0 400 2
+	not_taken 0 'offset 0x001F length 1 owner 1' 31 1 1
+	not_taken 0 'offset 0x001F length 2 owner 1' 31 2 1
+	not_taken 0 'offset 0x0000 length 400 owner 2' 0 400 2
 	taken 399 1 2
 	taken 32 368 2
-	not_taken 0 'offset 399 length 2 owner 2' 399 2 2
-	not_taken 0 'offset 32 length 369 owner 1' 32 369 1
-	not_taken 0 'offset 400 length 1 owner 1' 400 1 1
-	not_taken 0 'offset 4294967295 length 2 owner 1' 4294967295 2 1
-	not_taken 0 'offset 4294967264 length 65 owner 1' 4294967264 65 1
-	not_taken 0 'offset 65568 length 1 owner 1' 65568 1 1
-	not_taken 0 'offset 40 length 0 owner 1' 40 0 1
-	not_taken 1 'offset 42 (the one before ends at 42) length 0 owner 2' 40 2 1 42 0 2 42 2 2
-	not_taken 1 'offset 400 (the one before ends at 400) length 0 owner 1' 398 2 1 400 0 1
+	not_taken 0 'offset 0x018F length 2 owner 2' 399 2 2
+	not_taken 0 'offset 0x0020 length 369 owner 1' 32 369 1
+	not_taken 0 'offset 0x0190 length 1 owner 1' 400 1 1
+	not_taken 0 'offset 0xFFFFFFFF length 2 owner 1' 4294967295 2 1
+	not_taken 0 'offset 0xFFFFFFE0 length 65 owner 1' 4294967264 65 1
+	not_taken 0 'offset 0x10020 length 1 owner 1' 65568 1 1
+	not_taken 0 'offset 0x0028 length 0 owner 1' 40 0 1
+	not_taken 1 'offset 0x002A (the one before ends at 0x002A) length 0 owner 2' 40 2 1 42 0 2 42 2 2
+	not_taken 1 'offset 0x0190 (the one before ends at 0x0190) length 0 owner 1' 398 2 1 400 0 1
 	for owner in 0 3 255 256 257 258 512 65535; do
-		not_taken 1 "offset 42 (the one before ends at 42) length 2 owner $owner" 40 2 2 42 2 "$owner"
+		not_taken 1 "offset 0x002A (the one before ends at 0x002A) length 2 owner $owner" 40 2 2 42 2 "$owner"
 	done
 }
 
@@ -304,12 +304,12 @@ try_owner_order() {
 	taken 40 2 1 42 2 1
 	taken 40 2 1 42 2 2
 	taken 40 2 2 42 2 1 44 2 2
-	not_taken 1 'offset 41 (the one before ends at 42) length 2 owner 2' 40 2 1 41 2 2
-	not_taken 1 'offset 41 (the one before ends at 42) length 1 owner 1' 40 2 1 41 1 1
-	not_taken 1 'offset 40 (the one before ends at 42) length 2 owner 1' 40 2 1 40 2 1 50 2 1
-	not_taken 1 'offset 32 (the one before ends at 42) length 8 owner 2' 40 2 1 32 8 2
-	not_taken 2 'offset 40 (the one before ends at 52) length 2 owner 2' 40 2 1 50 2 2 40 2 2
-	not_taken 2 'offset 49 (the one before ends at 50) length 1 owner 1' 40 2 2 42 8 1 49 1 1 31 1 1
+	not_taken 1 'offset 0x0029 (the one before ends at 0x002A) length 2 owner 2' 40 2 1 41 2 2
+	not_taken 1 'offset 0x0029 (the one before ends at 0x002A) length 1 owner 1' 40 2 1 41 1 1
+	not_taken 1 'offset 0x0028 (the one before ends at 0x002A) length 2 owner 1' 40 2 1 40 2 1 50 2 1
+	not_taken 1 'offset 0x0020 (the one before ends at 0x002A) length 8 owner 2' 40 2 1 32 8 2
+	not_taken 2 'offset 0x0028 (the one before ends at 0x0034) length 2 owner 2' 40 2 1 50 2 2 40 2 2
+	not_taken 2 'offset 0x0031 (the one before ends at 0x0032) length 1 owner 1' 40 2 2 42 8 1 49 1 1 31 1 1
 }
 
 # so many ranges of a byte, side by side or apart, of either owner in turn
@@ -324,12 +324,12 @@ try_owner_counts() {
 		for count in 65 66 73; do
 			at=$((32 + 64 * step))
 			# shellcheck disable=SC2046
-			not_taken 64 "offset $at (the one before ends at $((at - step + 1))) length 1 owner 1" $(many "$count" "$step")
+			not_taken 64 "offset $(printf '0x%04X' "$at") (the one before ends at $(printf '0x%04X' $((at - step + 1)))) length 1 owner 1" $(many "$count" "$step")
 		done
 	done
 	# shellcheck disable=SC2046
 	put_lines l $(many 5000 1)
-	values 23 l "line 65: offset 96 (the one before ends at 96) length 1 owner 1, ranges so far 65, $z_400" owners show l v
+	values 23 l "line 65: offset 0x0060 (the one before ends at 0x0060) length 1 owner 1, ranges so far 65, $z_400" owners show l v
 }
 
 # bytes that make no whole range; without a 0 they would be text
@@ -344,12 +344,12 @@ try_owner_rests() {
 		values 23 l "taken as bytes (it has a 0), $over bytes: ranges 0, bytes over $over" owners show l v
 	done
 	head -c 8 /dev/zero >l
-	values 23 l "taken as bytes (it has a 0), 8 bytes: range 0 (counted from 0): offset 0 length 0 owner 0, ranges so far 1, $z_400" owners show l v
+	values 23 l "taken as bytes (it has a 0), 8 bytes: range 0 (counted from 0): offset 0x0000 length 0 owner 0, ranges so far 1, $z_400" owners show l v
 	list '40 2 2\000'
 	values 23 l "taken as bytes (it has a 0), 7 bytes: ranges 0, bytes over 7" owners show l v
-	values 23 /dev/zero "taken as bytes (it has a 0), more than 16777216 bytes: range 0 (counted from 0): offset 0 length 0 owner 0, \
+	values 23 /dev/zero "taken as bytes (it has a 0), more than 16777216 bytes: range 0 (counted from 0): offset 0x0000 length 0 owner 0, \
 ranges so far 1, $z_400" owners show /dev/zero v
-	keeps "$o" values 23 good "taken as bytes (it has a 0), 26 bytes: range 0 (counted from 0): offset 1095062100 length 11604 owner 12592, \
+	keeps "$o" values 23 good "taken as bytes (it has a 0), 26 bytes: range 0 (counted from 0): offset 0x41455254 length 11604 owner 12592, \
 ranges so far 1, $z_400" release --owners good --owner 1 v good keep "$o/out"
 }
 
@@ -399,7 +399,7 @@ try_owner_hidden() {
 	no_list 1 'control character 0x0D' '32 8 1\r40 2 2'
 	no_list 1 'control character 0x0D' '32 8 1\r\r\n'
 	list '4\0000\000 \0002\000 \0002\000\n\000'
-	values 23 l "taken as bytes (it has a 0), 14 bytes: range 0 (counted from 0): offset 3145780 length 32 owner 50, ranges so far 1, $z_400" \
+	values 23 l "taken as bytes (it has a 0), 14 bytes: range 0 (counted from 0): offset 0x300034 length 32 owner 50, ranges so far 1, $z_400" \
 		owners show l v
 }
 
@@ -408,16 +408,16 @@ try_owner_long() {
 	{ printf '# ' && head -c 1000000 /dev/zero | tr '\000' x && printf '\n40 2 2'; } >l
 	released_by release --owners l --owner 2 v good keep "$o/by"
 	{ head -c 1000000 /dev/zero | tr '\000' '\n' && printf '40 2 3'; } >l
-	keeps "$o" values 23 l "line 1000001: offset 40 length 2 owner 3, ranges so far 1, $z_400" release --owners l --owner 2 v good keep "$o/out"
+	keeps "$o" values 23 l "line 1000001: offset 0x0028 length 2 owner 3, ranges so far 1, $z_400" release --owners l --owner 2 v good keep "$o/out"
 	{ printf '40 2 ' && head -c 1000000 /dev/zero | tr '\000' 0; } >l
-	fails_with "pajurenda: l: line 1: owner \"$(digits 20 | tr 5a 00)..\" is not a number" owners show l v
+	fails_with "pajurenda: l: line 1: owner \"0000000000000000000000000000000000000000..\" is not a number" owners show l v
 	head -c 16777217 /dev/zero | tr '\000' '#' >l
 	keeps "$o" fails_with 'pajurenda: l: File too large' release --owners l --owner 1 v good keep "$o/out"
 	fails_with 'pajurenda: l: File too large' owners show l v
 	head -c 16777216 l >l2
 	works 0 owners show l2 v
 	yes '0 0 0' 2>/dev/null | head -c 6000000 >l
-	values 23 l "line 1: offset 0 length 0 owner 0, ranges so far 1, $z_400" owners show l v
+	values 23 l "line 1: offset 0x0000 length 0 owner 0, ranges so far 1, $z_400" owners show l v
 	rm l l2
 	mkfifo l
 	printf '40 2 2' >l &

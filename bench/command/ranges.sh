@@ -14,14 +14,14 @@ ranges_are() {
 	status=$3
 	shift 3
 	works "$status" audit --ranges "$one" "$other"
-	sed '1,4d; $d' "$work/out" >"$work/ranges"
+	sed '1,4d; /^verdict /,$d' "$work/out" >"$work/ranges"
 	lines "$@"
 	same "$work/ranges" "$work/wanted"
-	sed '1,4p; $p; d' "$work/out" >"$work/around"
+	sed '1,4p; /^verdict /,$p; d' "$work/out" >"$work/around"
 	works "$status" audit "$one" "$other"
-	sed '1,4p; $p; d' "$work/out" >"$work/around_list"
+	sed '1,4p; /^verdict /,$p; d' "$work/out" >"$work/around_list"
 	same "$work/around" "$work/around_list"
-	sed '1,4d; $d' "$work/out" >"$work/list"
+	sed '1,4d; /^verdict /,$d' "$work/out" >"$work/list"
 	awk '{ split($2, ends, "[.][.]"); if (ends[2] - ends[1] + 1 != $4) print "length"
 		for (at = ends[1]; at <= ends[2]; at++) print $1, at }' "$work/ranges" >"$work/spread"
 	same "$work/spread" "$work/list"
@@ -33,7 +33,7 @@ try_no_ranges() {
 }
 
 try_sample_ranges() {
-	ranges_are "$vendor" "$shipped" 1 'S 4136..4136 length 1 region offset 40' 'X 5000..5000 length 1 patch word 1'
+	ranges_are "$vendor" "$shipped" 1 'S 4136..4136 length 1 region offset 0x0028' 'X 5000..5000 length 1 patch word 1'
 	prints 'base 0x00100000' 'settings 1' 'strays 1' 'bits 1' 'S 4136' 'X 5000' 'verdict unexplained'
 }
 
@@ -53,10 +53,10 @@ try_region_ranges() {
 	flip "$i/t" 4094 4130
 	flip "$i/t" 4494 4503
 	ranges_are "$vendor" "$i/t" 1 'X 4094..4095 length 2 elsewhere' 'X 4096..4127 length 32 region header' \
-		'S 4128..4130 length 3 region offset 32' 'S 4494..4495 length 2 region offset 398' 'X 4496..4497 length 2 elsewhere' \
+		'S 4128..4130 length 3 region offset 0x0020' 'S 4494..4495 length 2 region offset 0x018E' 'X 4496..4497 length 2 elsewhere' \
 		'X 4498..4501 length 4 patch word 0' 'X 4502..4503 length 2 elsewhere'
 	works 0 setting "$vendor" 32 3
-	[ "$(head -n 1 "$work/out")" = 'place 4128' ] || fail "another offset than the range's"
+	[ "$(sed -n 2p "$work/out")" = 'place 4128' ] || fail "another offset than the range's"
 	passed
 }
 
@@ -66,12 +66,12 @@ try_joined_ranges() {
 	flip "$i/t" 4200 4200
 	flip "$i/t" 4202 4203
 	flip "$i/t" 4205 4300
-	ranges_are "$vendor" "$i/t" 0 'S 4200..4200 length 1 region offset 104' 'S 4202..4203 length 2 region offset 106' \
-		'S 4205..4300 length 96 region offset 109'
+	ranges_are "$vendor" "$i/t" 0 'S 4200..4200 length 1 region offset 0x0068' 'S 4202..4203 length 2 region offset 0x006A' \
+		'S 4205..4300 length 96 region offset 0x006D'
 	flip "$i/t" 6500 6500
 	flip "$i/t" 6502 6999
-	ranges_are "$vendor" "$i/t" 1 'S 4200..4200 length 1 region offset 104' 'S 4202..4203 length 2 region offset 106' \
-		'S 4205..4300 length 96 region offset 109' 'X 6500..6500 length 1 elsewhere' 'X 6502..6999 length 498 elsewhere'
+	ranges_are "$vendor" "$i/t" 1 'S 4200..4200 length 1 region offset 0x0068' 'S 4202..4203 length 2 region offset 0x006A' \
+		'S 4205..4300 length 96 region offset 0x006D' 'X 6500..6500 length 1 elsewhere' 'X 6502..6999 length 498 elsewhere'
 }
 
 # words side by side, in another order than their entries, and one at the image's end
@@ -88,7 +88,7 @@ try_word_ranges() {
 try_many_ranges() {
 	data=$root/crates/run_short/data
 	works 1 audit --ranges "$data/vendor.bin" "$data/shipped.bin"
-	[ "$(sed -n 5p "$work/out")" = 'S 4128..4377 length 250 region offset 32' ] || fail "the settings are not one range"
+	[ "$(sed -n 5p "$work/out")" = 'S 4128..4377 length 250 region offset 0x0020' ] || fail "the settings are not one range"
 	[ "$(grep -c '^X \([0-9]*\)[.][.]\1 length 1 elsewhere$' "$work/out")" -eq 50 ] || fail "not 50 strays"
 	[ "$(wc -l <"$work/out")" -eq 56 ] || fail "other lines"
 	passed

@@ -156,6 +156,11 @@ def main(page, text=None):
     verdict = root.one("section", "verdict")
     print("verdict %s (%s)" % (verdict.one("p", "word").text(), verdict.attributes["class"].split()[1]))
     print("because " + list(verdict.all("p"))[1].text())
+    for open_one in verdict.all("p", "unchecked"):
+        print("unchecked " + open_one.text())
+    for naming in root.all("section", "naming"):
+        for line in naming.all("p"):
+            print("naming " + line.text())
     for row in list(root.one("table", "files").all("tr"))[1:]:
         print("file " + "|".join(cell.text() for cell in row.all("td")))
     facts = {}

@@ -193,10 +193,10 @@ try_own_in_calls() {
 	values 14 r "$entry" audit r s
 	values 14 r "$entry" audit r "$work/above"
 	cp "$work/old" "$o/out"
-	keeps "$o" values 14 r "$entry" release "$all" --owner=1 r "$work/nothing" 0 "$o/out"
-	keeps "$o" values 14 r "$entry" release "$all" --owner=1 r "$work/nothing" 1 "$o/out"
+	keeps "$o" values 14 r "$entry" release "$all" --owner=1 r "$work/nothing" 0x0 "$o/out"
+	keeps "$o" values 14 r "$entry" release "$all" --owner=1 r "$work/nothing" 0x1 "$o/out"
 	keeps "$o" values 14 r "$entry" release "$all" --owner=1 r "$work/empty" keep "$o/out"
-	keeps "$o" values 1 "$work/above" 'the file has more than 16777216 bytes' release "$all" --owner=1 "$work/above" "$work/nothing" 0 "$o/none"
+	keeps "$o" values 1 "$work/above" 'the file has more than 16777216 bytes' release "$all" --owner=1 "$work/above" "$work/nothing" 0x0 "$o/none"
 	keeps "$o" values 1 "$work/empty" 'the file has 0 bytes' release "$all" --owner=1 "$work/empty" "$work/sheet" keep "$o/none"
 	values 1 "$work/empty" 'the file has 0 bytes' audit "$work/empty" s
 	values 1 "$work/above" 'the file has more than 16777216 bytes' audit "$work/above" "$work/above"
@@ -209,8 +209,8 @@ refuses_sheet() { keeps "$o" values "$1" "$2" "$3" release "$all" --owner=1 v "$
 
 # odd_entry LENGTH M INDEX OFFSET END LENGTH BODY RUNNING: 15 of the file b, which names the first entry that does not follow
 odd_entry() {
-	refuses_sheet 15 b "the file has $1 bytes, m $2, entry $3 (counted from 0) has offset $4 \
-(the one before ends at $5), length $6, body at $7 (the one before ends at $8)"
+	refuses_sheet 15 b "the file has $1 bytes, m $2, entry $3 (counted from 0) has offset $(printf '0x%04X' "$4") \
+(the one before ends at $(printf '0x%04X' "$5")), length $6, body at $7 (the one before ends at $8)"
 }
 
 try_sheets() {
@@ -247,16 +247,16 @@ version 2.2.3.4, $same_image" release "$all" --owner=1 v b keep "$o/out"
 try_fields() {
 	rule='a setting must have a byte or more, at offsets 32 to z-1 of the region'
 	poked good b 16 '\037'
-	keeps "$o" refuses 17 b "$rule: entry 0 (counted from 0) has offset 31 length 2, the region's size z is 400" release "$all" --owner=1 v b keep "$o/none"
+	keeps "$o" refuses 17 b "$rule: entry 0 (counted from 0) has offset 0x001F length 2, the region's size z is 0x0190" release "$all" --owner=1 v b keep "$o/none"
 	printf 'TREAT-01\004\003\002\001\003\000\000\000' >b
 	printf '\050\000\000\000\002\000\050\000\217\001\000\000\002\000\052\000\000\002\000\000\001\000\054\000abcde' >>b
-	refuses_sheet 17 b "entry 1 (counted from 0) has offset 399 length 2, the region's size z is 400"
-	refuses 17 v "$rule: offset 31 length 1, the region's size z is 400" setting v 31 1
+	refuses_sheet 17 b "entry 1 (counted from 0) has offset 0x018F length 2, the region's size z is 0x0190"
+	refuses 17 v "$rule: offset 0x001F length 1, the region's size z is 0x0190" setting v 31 1
 	for words in '400 1' '399 2' '40 0' '18446744073709551615 1' '40 18446744073709551615'; do
 		# shellcheck disable=SC2086
-		values 17 v "offset ${words% *} length ${words#* }, the region's size z is 400" setting v $words
+		values 17 v "offset $(printf '0x%04X' "${words% *}") length ${words#* }, the region's size z is 0x0190" setting v $words
 	done
-	values 17 v "offset 40 length 18446744073709551615, the region's size z is 400" setting v 40 0xFFFFFFFFFFFFFFFF
+	values 17 v "offset 0x0028 length 18446744073709551615, the region's size z is 0x0190" setting v 40 0xFFFFFFFFFFFFFFFF
 }
 
 # ---- bases and pairs, 18 and 19 ----
@@ -266,8 +266,8 @@ try_new_bases() {
 	for base in 0x00100800 0xFFFFF000 0x100000000 0x100100000 0xFFFFFFFFFFFFFFFF; do
 		keeps "$o" refuses 18 v "the new base $rule_base: $base for 8192 bytes" release "$all" --owner=1 v "$work/nothing" "$base" "$o/out"
 	done
-	keeps "$o" refuses 18 v "the new base $rule_base: 0xFFFFFFFFFFFFFFFF for 8192 bytes" release "$all" --owner=1 v "$work/nothing" 18446744073709551615 "$o/out"
-	keeps "$o" refuses 18 v "the new base $rule_base: 0x00000001 for 8192 bytes" release "$all" --owner=1 v "$work/nothing" 1 "$o/none"
+	keeps "$o" refuses 18 v "the new base $rule_base: 0xFFFFFFFFFFFFFFFF for 8192 bytes" release "$all" --owner=1 v "$work/nothing" 0xffffffffffffffff "$o/out"
+	keeps "$o" refuses 18 v "the new base $rule_base: 0x00000001 for 8192 bytes" release "$all" --owner=1 v "$work/nothing" 0x1 "$o/none"
 	poked s b 128 '\001'
 	refuses 18 b "the shipped file's base $rule_base: 0x00100001 for 8192 bytes" audit v b
 	poked s b 128 '\000\360\377\377'
@@ -278,14 +278,14 @@ try_new_bases() {
 try_release_order() {
 	cp "$work/old" "$o/out"
 	head -c 25 good >b
-	keeps "$o" values 14 r "$entry" release "$all" --owner=1 r b 1 "$o/out"
-	keeps "$o" values 15 b 'the file has 25 bytes, m 1, the last body ends at 26' release "$all" --owner=1 v b 1 "$o/out"
+	keeps "$o" values 14 r "$entry" release "$all" --owner=1 r b 0x1 "$o/out"
+	keeps "$o" values 15 b 'the file has 25 bytes, m 1, the last body ends at 26' release "$all" --owner=1 v b 0x1 "$o/out"
 	poked good b 0 X 16 '\037'
 	keeps "$o" values 16 b "the sheet is for 58524541542D3031 \"XREAT-01\" revision 0x01020304 extended 0x0000 version 1.2.3.4, $same_image" \
-		release "$all" --owner=1 v b 1 "$o/out"
+		release "$all" --owner=1 v b 0x1 "$o/out"
 	poked good b 16 '\037'
-	keeps "$o" values 17 b "entry 0 (counted from 0) has offset 31 length 2, the region's size z is 400" release "$all" --owner=1 v b 1 "$o/out"
-	keeps "$o" refuses 18 v "the new base $rule_base: 0x00000001 for 8192 bytes" release "$all" --owner=1 v good 1 "$o/out"
+	keeps "$o" values 17 b "entry 0 (counted from 0) has offset 0x001F length 2, the region's size z is 0x0190" release "$all" --owner=1 v b 0x1 "$o/out"
+	keeps "$o" refuses 18 v "the new base $rule_base: 0x00000001 for 8192 bytes" release "$all" --owner=1 v good 0x1 "$o/out"
 	poked "$work/nothing" b 7 '\002'
 	keeps "$o" values 16 b "the sheet is for 54524541542D3002 revision 0x01020304 extended 0x0000 version 1.2.3.4, $same_image" \
 		release "$all" --owner=1 v b 0x00100000 "$o/out"
@@ -319,7 +319,7 @@ try_huge() {
 	values 1 "$work/huge" "$long" read "$work/huge"
 	values 1 "$work/huge" "$long" audit "$work/huge" s
 	values 19 "$work/huge" "$long, v has 8192" audit v "$work/huge"
-	keeps "$o" values 1 "$work/huge" "$long" release "$all" --owner=1 "$work/huge" "$work/nothing" 0 "$o/out"
+	keeps "$o" values 1 "$work/huge" "$long" release "$all" --owner=1 "$work/huge" "$work/nothing" 0x0 "$o/out"
 	refuses_sheet 15 "$work/huge" "$long, m 0, the last body ends at 16"
 	rm "$work/huge"
 }

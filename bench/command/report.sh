@@ -34,7 +34,7 @@ reported() {
 	[ -n "$python" ] || return 0
 	sed -n 's/^ranges //p' "$work/page" | sed 's/^\(.\) [a-z]*|\([^|]*\)|\([^|]*\)|\([^|]*\)|\([^|]*\)|\([^|]*\).*/\1 \2 length \3 \4 should \5 is \6/' |
 		grep -v ' more' | tr -d ' ' >"$work/rows"
-	sed 's/, .*//' whole | awk '{ split($2, ends, "[.][.]"); if (ends[2] - ends[1] < 24) print }' | tr -d ' ' >"$work/wanted_rows"
+	sed "s/, .*//; s/ maker's / should /" whole | awk '{ split($2, ends, "[.][.]"); if (ends[2] - ends[1] < 24) print }' | tr -d ' ' >"$work/wanted_rows"
 	same "$work/rows" "$work/wanted_rows"
 	page_says "file Maker's image|$vendor|8192|$(digest_of "$vendor")" "file Whole list|whole|$(wc -c <whole)|$(digest_of whole)" \
 		"by $version $(run --version | sed -n 's/^proved with //p')"
@@ -48,12 +48,12 @@ try_audit_page() {
 		"file Shipped file|$shipped|8192|$(digest_of "$shipped")" 'fact Component: T' 'fact Identity: 54524541542D3031 “TREAT-01”' \
 		'fact Revision: 0x01020304' 'fact Extended number: 0x0000' 'fact Version: 1.2.3.4' 'fact Base: 0xFFF80000' 'fact FSP header at: 100' \
 		'fact Patch entries: 4' 'fact Region at: 4096' "fact Region's bytes: 400" 'fact shipped Base: 0x00100000' 'fact Move: -4293394432' \
-		'fact Setting bytes that differ: 1' 'fact Bits of them: 1' 'fact Stray bytes: 1' 'ranges S setting|4136..4136|1|region offset 40|01|00' \
+		'fact Setting bytes that differ: 1' 'fact Bits of them: 1' 'fact Stray bytes: 1' 'ranges S setting|4136..4136|1|region offset 0x0028|01|00' \
 		'ranges X stray|5000..5000|1|patch word 1|4C|34' 'words base word|128|0xFFF80000|0x00100000|0x00100000' \
 		'words patch word 1|4998|0x12345678|0x124C5678|0x12345678' 'words patch word 3|8188|0xFFF81FF0|0x00101FF0|0x00101FF0' \
 		'marks image settings 1' 'marks image strays 1' 'marks region settings 1' 'marks region strays 0'
 	reported 0 audit "$vendor" "$root/crates/run_explained/data/shipped.bin"
-	page_says 'title Audit: explained' 'verdict explained (good)' 'marks image strays 0'
+	page_says 'title Audit: explained' 'verdict explained (open)' 'marks image strays 0'
 	reported 0 audit "$vendor" "$o/moved"
 	page_says "because Moved to the shipped base, the maker's image is the shipped file: no byte differs." 'marks image settings 0'
 	reported 1 audit --ranges "$vendor" t
@@ -62,12 +62,18 @@ try_audit_page() {
 	cd "$root"
 }
 
+# two entries of the sheets as their rows have them
+entry_64='0x0064 at 4196|4|AA BB CC DD = 0xDDCCBBAA|7F A4 C9 EE = 0xEEC9A47F'
+entry_12C='0x012C at 4396|3|11 22 33|67 8C B1'
+
 try_verify_page() {
 	cd "$i"
 	reported 0 verify "$vendor" one.sheet two.sheet released
 	page_says 'title Verify: as released' 'h1 released' 'verdict as released (good)' "file Sheet 1|one.sheet|$(wc -c <one.sheet)|$(digest_of one.sheet)" \
-		"file Sheet 2|two.sheet|$(wc -c <two.sheet)|$(digest_of two.sheet)" 'entries 0|40|2|01 00|01 05|as set; in part set again by a later sheet' \
-		'entries 1|100|4|AA BB CC DD|7F A4 C9 EE|as set' 'entries 0|41|1|07|05|as set' 'entries 2|300|3|11 22 33|67 8C B1|as set'
+		"file Sheet 2|two.sheet|$(wc -c <two.sheet)|$(digest_of two.sheet)" 'entries 0|0x0028 at 4136|2|01 00 = 0x0001|01 05 = 0x0501|as set; in part set again by a later sheet' \
+		"entries 1|$entry_64|as set" 'entries 0|0x0029 at 4137|1|07|05|as set' "entries 2|$entry_12C|as set" \
+		'entries 1|0x00C8 at 4296|1|F3|F3|changes nothing' "because Byte for byte, the shipped file is what releasing the maker's image with the sheets below, in \
+their order, to its base makes. 1 of 5 entries changes nothing: the maker's image has these bytes already."
 	cp released b
 	flip b 4197 4197
 	flip b 4160 4161
@@ -75,12 +81,12 @@ try_verify_page() {
 	poke b 4396 "\\$(printf %o "0x$(bytes_at "$vendor" 4396 1)")"
 	reported 1 verify "$vendor" one.sheet two.sheet b
 	page_says 'title Verify: not as released' 'verdict not as released (bad)' "because 5 bytes are not what the release makes: 2 in settings that a sheet \
-sets (1 still as the maker's), 2 in settings that no sheet sets, 1 outside the settings." 'entries 1|100|4|AA BB CC DD|7F A4 C9 EE|otherwise' \
-		"entries 2|300|3|11 22 33|67 8C B1|in part still as the maker's" 'marks image sheets 2' 'marks image others 1' 'marks image strays 1' \
+sets (1 still as the maker's), 2 in settings that no sheet sets, 1 outside the settings." "entries 1|$entry_64|otherwise" \
+		"entries 2|$entry_12C|in part still as the maker's" 'marks image sheets 2' 'marks image others 1' 'marks image strays 1' \
 		'marks region sheets 2' 'marks region others 1' 'marks region strays 0'
-	grep -q '^ranges S setting|4197..4197|1|region offset 101|BB|BC|sheet 1, entry 1: neither' "$work/page" || [ -z "$python" ] || fail "who sets it"
+	grep -q '^ranges S setting|4197..4197|1|region offset 0x0065|BB|BC|sheet 1, entry 1: neither' "$work/page" || [ -z "$python" ] || fail "who sets it"
 	reported 1 verify "$vendor" one.sheet two.sheet "$o/moved"
-	page_says "entries 1|100|4|AA BB CC DD|7F A4 C9 EE|still as the maker's" "entries 2|300|3|11 22 33|67 8C B1|still as the maker's"
+	page_says "entries 1|$entry_64|still as the maker's" "entries 2|$entry_12C|still as the maker's"
 	reported 0 verify "$vendor" "$work/nothing" "$o/moved"
 	printf '40 2 1\n100 4 1\n' >own
 	try 0 verify --report page --owners own --owner 1 v one.sheet first
@@ -277,15 +283,17 @@ try_large_page() {
 # a sheet with the most entries, and one with the longest body; the words of a long table
 try_long_page() {
 	row 256 >"$i/text"
+	bind
 	works 0 sheet make "$work/wide" "$i/text" "$i/most"
 	printf '32 5A\n33 %s' "$(digits 65502)" >"$i/text"
+	bind
 	works 0 sheet make "$work/wide" "$i/text" "$i/longest"
 	works 1 verify --report "$o/page" "$work/wide" "$i/most" "$i/longest" "$i/most" "$work/wide"
 	page_of "$o/page"
 	[ -n "$python" ] || return 0
 	[ "$(grep -c '^entries ' "$work/page")" -eq 500 ] || fail "not 500 entries"
 	page_says 'rest … and 14 more entries; pajurenda sheet show lists all.'
-	grep -q '^entries 1|33|65502|5A \(5A \)*… 65478 more|00 \(00 \)*… 65478 more|' "$work/page" || fail "the long entry"
+	grep -q '^entries 1|0x0021 at 8225|65502|5A \(5A \)*… 65478 more|00 \(00 \)*… 65478 more|' "$work/page" || fail "the long entry"
 	[ "$(wc -c <"$o/page")" -lt 300000 ] || fail "the page has $(wc -c <"$o/page") bytes"
 	passed
 	rm "$o/page"

@@ -76,8 +76,8 @@ try_reserved_calls() {
 	values 22 b "$entry" read --words b
 	values 22 b "$entry" setting b 40 2
 	values 22 b "$entry" setting b 0 0
-	keeps "$o" values 22 b "$entry" release "$all" --owner=1 b "$work/nothing" 0 "$o/out"
-	keeps "$o" values 22 b "$entry" release "$all" --owner=1 b "$work/nothing" 1 "$o/none"
+	keeps "$o" values 22 b "$entry" release "$all" --owner=1 b "$work/nothing" 0x0 "$o/out"
+	keeps "$o" values 22 b "$entry" release "$all" --owner=1 b "$work/nothing" 0x1 "$o/none"
 	keeps "$i" values 22 b "$entry" release "$all" --owner=1 b "$work/nothing" 0x00100000 b
 	keeps "$o" values 22 b "$entry" release "$all" --owner=1 b good keep "$o/out"
 	keeps "$o" values 22 b "$entry" release "$all" --owner=1 b "$work/empty" keep "$o/out"

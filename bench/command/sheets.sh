@@ -1,11 +1,27 @@
 # shellcheck shell=sh disable=SC2034,SC2154,SC2162,SC2164
 # Sheets: the empty one, those made of a text, and those shown as a text that makes the same sheet again.
 
+# what a text without the lines that bind it is told after them
+what_for='pajurenda: these lines keep a text of one revision from being used with another, where the same offsets are other settings '\
+'(see pajurenda sheet make --help)'
 treat='identity 54524541542D3031 "TREAT-01"'
-# makes IMAGE TEXT OUT ENTRIES LENGTH: the sheet of the vendor's identity, with these counts told
+# makes IMAGE TEXT OUT ENTRIES LENGTH: the sheet of the vendor's identity, with these counts told and a line for each entry
 makes() {
 	works 0 sheet make "$1" "$2" "$3"
+	cp "$work/out" "$work/told"
+	grep '^set 0x' "$work/told" >"$work/sets" || :
+	grep -v '^set 0x' "$work/told" >"$work/out"
 	prints "$treat" 'revision 0x01020304' 'extended 0x0000' 'version 1.2.3.4' "entries $4" "length $5"
+	[ "$(wc -l <"$work/sets")" -eq "$4" ] || fail "not a line for each entry"
+	[ "$(sed -n '1,6{/^set/p}' "$work/told" | wc -l)" -eq 0 ] || fail "entries before what the sheet is for"
+}
+
+# binds TEXT..: these lines as a text for the vendor's image, into the file text
+binds() {
+	: >"$i/text"
+	# shellcheck disable=SC2059
+	for line in "$@"; do printf -- "$line\\n" >>"$i/text"; done
+	cat "$work/bound" >>"$i/text"
 }
 
 try_empty_sheet() {
@@ -14,36 +30,40 @@ try_empty_sheet() {
 	same "$o/sheet" "$work/nothing"
 	works 0 sheet show "$o/sheet"
 	prints "$treat" 'revision 0x01020304' 'extended 0x0000 # version 1.2.3.4' '# entries 0'
-	: >"$i/text"
-	makes "$vendor" "$i/text" "$o/none" 0 16
-	same "$o/none" "$work/nothing"
+	for text in '' '# 40 01 00' 'extended 0'; do
+		binds "$text"
+		keeps "$o" fails_with "pajurenda: sheet make: $i/text: it has no entry, so its sheet would set nothing; sheet empty writes such a sheet (see \
+pajurenda sheet make --help)" sheet make "$vendor" "$i/text" "$o/none"
+	done
 	keeps "$o" refuses 1 "$work/empty" 'an image has 72 to 16777216 bytes: the file has 0 bytes' sheet empty "$work/empty" "$o/sheet"
-	rm "$o/sheet" "$o/none"
+	rm "$o/sheet"
 }
 
 # the sample's sheet, by every way to write it; what `read` and `setting` print can be copied into it
 try_made_sheet() {
-	printf '40 0100\n' >"$i/text"
+	binds '40 01 00'
 	makes "$vendor" "$i/text" "$o/sheet" 1 26
 	same "$o/sheet" "$work/sheet"
-	for text in '40 01 00' '0x28 0100' '  40	01	00  ' '40 0100# set' '40 0100 # set' '#\n\n \n\t\n40 0100' '40 0100\r' '40 0100\r\n\r\n' '\357\273\27740 0100' \
-		"$treat\\n40 0100" '# \303\266\n40 0100' 'revision 16909060\nextended 0\n40 0100' '40 0100\nextended 0x0\nextended 0' \
-		'identity 54524541542d3031\n40 0100' 'identity 54524541542D3031 "TREAT-01"# "\n40 0100'; do
-		# shellcheck disable=SC2059
-		printf "$text" >"$i/text"
+	[ "$(cat "$work/sets")" = 'set 0x0028 at 4136: 01 05 -> 01 00, 0x0501 -> 0x0001' ] || fail "the entry is told otherwise"
+	for text in '0x28 01 00' '  40	01	00  ' '40 01 00# set' '40 01 00 # set' '#\n\n \n\t\n40 01 00' '40 01 00\r' '40 01 00\r\n\r\n' '\357\273\27740 01 00' \
+		"$treat\\n40 01 00" '# \303\266\n40 01 00' 'revision 16909060\nextended 0\n40 01 00' '40 01 00\nextended 0x0\nextended 0' \
+		'identity 54524541542d3031\n40 01 00' 'identity 54524541542D3031 "TREAT-01"# "\n40 01 00' '40 = 01 00' '40=01 00' '40 = 0x1 : 2' '40 =0x0001:2' \
+		'0x28 = 0x0001 : 0x2 # low byte first' '40 01 00 was 01 05' '40 01 00 was 0x0501' '40 01 00 was 0x501 : 2 # x' '40 = 0x0001 : 2 was 01 05' \
+		'40 01 00\twas\t01\t05'; do
+		binds "$text"
 		makes "$vendor" "$i/text" "$o/sheet" 1 26
 		same "$o/sheet" "$work/sheet"
 	done
-	run read "$vendor" | grep -e '^identity ' -e '^revision ' -e '^extended ' >"$i/text"
+	bound "$vendor" >"$i/text"
 	[ "$(wc -l <"$i/text")" -eq 3 ] || fail "read does not say which image it is"
 	run setting "$vendor" 40 2 | sed -n 's/^bytes/40/p' >>"$i/text"
 	makes "$vendor" "$i/text" "$o/sheet" 1 26
 	works 0 sheet show "$o/sheet" "$vendor"
-	prints "$treat" 'revision 0x01020304' 'extended 0x0000 # version 1.2.3.4' '40 0105 # replaces 0105, changes nothing' \
+	prints "$treat" 'revision 0x01020304' 'extended 0x0000 # version 1.2.3.4' '0x0028 01 05 was 01 05 # at 4136, 0x0501, changes nothing' \
 		'# entries 1, of which 0 would change the image'
 	what='sheet make IMAGE /dev/stdin, a pipe'
 	got=0
-	printf '40 0100' | run sheet make "$vendor" /dev/stdin "$o/sheet" >"$work/out" 2>"$work/err" || got=$?
+	{ printf '40 01 00\n' && cat "$work/bound"; } | run sheet make "$vendor" /dev/stdin "$o/sheet" >"$work/out" 2>"$work/err" || got=$?
 	status_was 0
 	same "$o/sheet" "$work/sheet"
 }
@@ -51,18 +71,19 @@ try_made_sheet() {
 # what an entry would replace is what a release then replaces
 try_shown_sheet() {
 	poked "$vendor" "$work/unset" 4135 '\377\377\377\377'
-	printf '32 AA # first\n39 FF\n40 0100\n399 B7' >"$i/text"
+	binds '32 AA # first' '39 FF' '40 01 00' '399 B7'
 	makes "$vendor" "$i/text" "$o/sheet" 4 53
 	works 0 sheet show "$o/sheet" "$work/unset"
-	prints "$treat" 'revision 0x01020304' 'extended 0x0000 # version 1.2.3.4' "32 AA # replaces $(byte_at "$work/unset" 4128), changes 1 of 1 bytes" \
-		'39 FF # replaces FF, changes nothing' '40 0100 # replaces FFFF, changes 2 of 2 bytes' '399 B7 # replaces B6, changes 1 of 1 bytes' \
+	prints "$treat" 'revision 0x01020304' 'extended 0x0000 # version 1.2.3.4' "0x0020 AA was $(byte_at "$work/unset" 4128) # at 4128, changes 1 of 1 bytes" \
+		'0x0027 FF was FF # at 4135, changes nothing' '0x0028 01 00 was FF FF # at 4136, 0xFFFF -> 0x0001, changes 2 of 2 bytes' \
+		'0x018F B7 was B6 # at 4495, changes 1 of 1 bytes' \
 		'# entries 4, of which 3 would change the image'
 	works 0 sheet show "$o/sheet"
-	prints "$treat" 'revision 0x01020304' 'extended 0x0000 # version 1.2.3.4' '32 AA' '39 FF' '40 0100' '399 B7' '# entries 4'
+	prints "$treat" 'revision 0x01020304' 'extended 0x0000 # version 1.2.3.4' '0x0020 AA' '0x0027 FF' '0x0028 01 00' '0x018F B7' '# entries 4'
 	works 0 release "$all" --owner=1 "$work/unset" "$o/sheet" keep "$o/set"
 	works 0 audit --bytes "$work/unset" "$o/set"
 	prints 'base 0xFFF80000' 'settings 4' 'strays 0' "$(sed -n 4p "$work/out")" "S 4128 $(byte_at "$work/unset" 4128) AA" 'S 4136 FF 01' \
-		'S 4137 FF 00' 'S 4495 B6 B7' 'verdict explained'
+		'S 4137 FF 00' 'S 4495 B6 B7' 'verdict explained' "$unchecked"
 	works 0 sheet show "$o/sheet" "$o/set"
 	[ "$(grep -c ', changes nothing$' "$work/out")" -eq 4 ] || fail "what is set is still to change"
 	[ "$(tail -n 1 "$work/out")" = '# entries 4, of which 0 would change the image' ] || fail "another count"
@@ -78,16 +99,20 @@ try_extended_sheets() {
 	prints "$treat" 'revision 0x01020304' 'extended 0xBBAA' 'version 1.2.47875.43524' 'entries 0' 'length 16'
 	same "$o/sheet" b
 	sheet_of b 170 187
-	for line in '' 'extended 0xBBAA' 'extended 48042'; do
-		printf '40 0100\n%s' "$line" >t
+	for line in 'extended 0xBBAA' 'extended 48042'; do
+		{ printf '40 01 00\n%s\n' "$line" && cat "$work/bound"; } >t
 		works 0 sheet make n t "$o/sheet"
 		same "$o/sheet" b
 	done
+	{ printf '40 01 00\n' && cat "$work/bound"; } >t
+	keeps "$o" fails_with 'pajurenda: t: it does not say which image it is for. If its offsets are those of n itself, write into it:
+    extended 0xBBAA
+'"$what_for" sheet make n t "$o/sheet"
 	works 0 sheet show b n
-	prints "$treat" 'revision 0x01020304' 'extended 0xBBAA # version 1.2.47875.43524' '40 0100 # replaces 0105, changes 1 of 2 bytes' \
+	prints "$treat" 'revision 0x01020304' 'extended 0xBBAA # version 1.2.47875.43524' '0x0028 01 00 was 01 05 # at 4136, 0x0501 -> 0x0001, changes 1 of 2 bytes' \
 		'# entries 1, of which 1 would change the image'
 	again n b
-	printf '40 0100\nextended 0xAABB' >t
+	printf '40 01 00\nextended 0xAABB' >t
 	keeps "$o" values 16 t 'line 2: extended 0xAABB, n has extended 0xBBAA' sheet make n t "$o/sheet"
 	refuses 16 b "$rule_identity: the sheet is for $(parts 0xBBAA 1.2.47875.43524), v is $(parts 0x0000 1.2.3.4)" sheet show b v
 	rm n b t
@@ -105,10 +130,10 @@ try_refused_sheets() {
 	keeps "$o" refuses 16 b "$rule_identity: the sheet is for 54524541542D3031 \"TREAT-01\" revision 0x02020304 extended 0x0000 \
 version 2.2.3.4, v is $(parts 0x0000 1.2.3.4)" sheet show b v
 	poked good b 16 '\037'
-	refuses 17 b "a setting must have a byte or more, at offsets 32 to z-1 of the region: entry 0 (counted from 0) has offset 31 length 2, \
-the region's size z is 400" sheet show b v
+	refuses 17 b "a setting must have a byte or more, at offsets 32 to z-1 of the region: entry 0 (counted from 0) has offset 0x001F length 2, \
+the region's size z is 0x0190" sheet show b v
 	works 0 sheet show b
-	prints "$treat" 'revision 0x01020304' 'extended 0x0000 # version 1.2.3.4' '31 0100' '# entries 1'
+	prints "$treat" 'revision 0x01020304' 'extended 0x0000 # version 1.2.3.4' '0x001F 01 00' '# entries 1'
 	{ cat good && printf X; } >b
 	values 15 b 'the file has 27 bytes, m 1, the last body ends at 26' sheet show b
 	keeps "$o" values 15 b 'the file has 27 bytes, m 1, the last body ends at 26' release "$all" --owner=1 v b keep "$o/out"
@@ -168,11 +193,11 @@ try_random_sheets() {
 try_odd_identities() {
 	for identity in '#" "#"#"' '        ' '""' '\000\001\377\012\015\011\043\040' '#identit'; do
 		poked "$vendor" "$i/odd" 116 "$identity"
-		printf '32 01\n399 02\n' >"$i/text"
+		{ printf '32 01\n399 02\n' && bound "$i/odd"; } >"$i/text"
 		works 0 sheet make "$i/odd" "$i/text" "$o/sheet"
 		[ "$(od -An -v -tx1 -N8 "$o/sheet")" = "$(od -An -v -tx1 -j116 -N8 "$i/odd")" ] || fail "another identity"
 		again "$i/odd" "$o/sheet"
-		grep -v '^#' "$work/text" | sed 's/ #.*changes.*//' >"$i/text"
+		grep -v '^#' "$work/text" | sed 's/ # at .*//' >"$i/text"
 		works 0 sheet make "$i/odd" "$i/text" "$o/again"
 		same "$o/again" "$o/sheet"
 	done
@@ -189,33 +214,38 @@ make_wide() {
 	poke "$work/wide" 8198 '_T'
 }
 
-# digits COUNT: so many bytes in hex
-digits() { head -c "$1" /dev/zero | tr '\000' '\132' | od -An -v -tx1 | tr -d ' \n'; }
+# digits COUNT: so many bytes in hex, apart
+digits() { head -c "$1" /dev/zero | tr '\000' '\132' | od -An -v -tx1 | tr -d '\n'; }
 
 # row COUNT: so many entries of a byte each
 row() { awk -v count="$1" 'BEGIN { for (k = 0; k < count; k++) print 32 + 2 * k, "A5" }'; }
+
+# bind: the text at its end bound to the vendor's identity
+bind() { { echo && cat "$work/bound"; } >>"$i/text"; }
 
 try_large_sheets() {
 	make_wide
 	works 0 read "$work/wide"
 	row 256 >"$i/text"
+	bind
 	makes "$work/wide" "$i/text" "$o/sheet" 256 2320
 	again "$work/wide" "$o/sheet"
 	row 257 >"$i/text"
-	keeps "$o" refuses 15 "$i/text" "$rule_sheet: line 257: offset 544 (the one before ends at 543) length 1, entries so far 257, bytes 2329" \
+	keeps "$o" refuses 15 "$i/text" "$rule_sheet: line 257: offset 0x0220 (the one before ends at 0x021F) length 1, entries so far 257, bytes 2329" \
 		sheet make "$work/wide" "$i/text" "$o/sheet"
 	{ row 100 && echo '300 00 # as far as here' && row 65000; } >"$i/text"
-	keeps "$o" values 15 "$i/text" 'line 102: offset 32 (the one before ends at 301) length 1, entries so far 102, bytes 934' \
+	keeps "$o" values 15 "$i/text" 'line 102: offset 0x0020 (the one before ends at 0x012D) length 1, entries so far 102, bytes 934' \
 		sheet make "$work/wide" "$i/text" "$o/sheet"
 	printf '32 5A\n33 %s' "$(digits 65502)" >"$i/text"
+	bind
 	makes "$work/wide" "$i/text" "$o/sheet" 2 65535
 	again "$work/wide" "$o/sheet"
 	keeps "$o" limited 'File too large' sheet make "$work/wide" "$i/text" "$o/sheet"
 	printf '32 5A\n33 %s' "$(digits 65503)" >"$i/text"
-	keeps "$o" values 15 "$i/text" 'line 2: offset 33 (the one before ends at 33) length 65503, entries so far 2, bytes 65536' \
+	keeps "$o" values 15 "$i/text" 'line 2: offset 0x0021 (the one before ends at 0x0021) length 65503, entries so far 2, bytes 65536' \
 		sheet make "$work/wide" "$i/text" "$o/sheet"
 	printf '32 5A\n33 %s' "$(digits 65535)" >"$i/text"
-	keeps "$o" values 15 "$i/text" 'line 2: offset 33 (the one before ends at 33) length 65535, entries so far 2, bytes 65568' \
+	keeps "$o" values 15 "$i/text" 'line 2: offset 0x0021 (the one before ends at 0x0021) length 65535, entries so far 2, bytes 65568' \
 		sheet make "$work/wide" "$i/text" "$o/sheet"
 	printf '32 5A\n33 %s' "$(digits 65536)" >"$i/text"
 	keeps "$o" fails_with "pajurenda: $i/text: line 2: more than 65535 bytes" sheet make "$work/wide" "$i/text" "$o/sheet"
@@ -227,24 +257,27 @@ try_shown_path() {
 	mkdir "$work/path"
 	cp "$vendor" "$work/path/vendor.bin"
 	# shellcheck disable=SC2016
-	sed -n 's/^`settings.txt` may be as short as `\([^`]*\)`.*/\1/p' "$root/README.md" >"$work/path/settings.txt"
+	sed -n 's/^the line `\([^`]*\)` in `settings.txt`.*/\1/p' "$root/README.md" >"$work/path_entry"
+	[ "$(wc -l <"$work/path_entry")" -eq 1 ] || fail "no entry in the README"
 	sed -n 's/^    pajurenda //p' "$root/README.md" >"$work/path_lines"
-	[ "$(wc -l <"$work/path_lines")" -eq 7 ] || fail "not seven lines in the README"
+	[ "$(wc -l <"$work/path_lines")" -eq 8 ] || fail "not eight lines in the README"
 	cd "$work/path"
 	while read -r words; do
 		# shellcheck disable=SC2086
 		works 0 $words
+		[ "${words#sheet start}" = "$words" ] || cat "$work/path_entry" >>settings.txt
 	done <"$work/path_lines"
-	prints 'verdict as released' 'base 0x00512000' 'move -4289126400' 'sheet 1 entries 1 settings.sheet' 'settings 0' 'strays 0' 'bits 0'
+	prints 'verdict as released' 'base 0x00512000' 'move -4289126400' 'sheet 1 entries 1 settings.sheet' \
+		'set 0x0028 at 4136: 01 05 -> 01 00, 0x0501 -> 0x0001' 'settings 0' 'strays 0' 'bits 0'
 	[ -s shipped.html ] || fail "no page"
 	works 0 audit --ranges vendor.bin shipped.bin
-	prints 'base 0x00512000' 'settings 1' 'strays 0' 'bits 2' 'S 4137..4137 length 1 region offset 41' 'verdict explained'
-	printf 'TREAT-01\004\003\002\001\002\000\000\000\050\000\000\000\002\000\040\000\140\000\000\000\002\000\042\000\001\000\377\356' >wanted
-	sed -n 's/^    \([^ ]\)/\1/p' "$work/help.sheet" >text
-	makes vendor.bin text sheet 2 36
+	prints 'base 0x00512000' 'settings 1' 'strays 0' 'bits 2' 'S 4137..4137 length 1 region offset 0x0029' 'verdict explained' "$unchecked"
+	printf 'TREAT-01\004\003\002\001\002\000\000\000\050\000\000\000\002\000\040\000\140\000\000\000\004\000\042\000\001\000\377\356\000\000' >wanted
+	sed -n 's/^    \([^ ]\)/\1/p' "$work/help.sheet" | grep -v '^BypassRelay = ' >text
+	makes vendor.bin text sheet 2 38
 	same sheet wanted
-	sed -n '/^.SH SHEETS AS TEXT/,/^.fi/p' "$root/command/pajurenda.1" | grep -v '^[.]' >text
-	makes vendor.bin text sheet 2 36
+	sed -n '/^.SH SHEETS AS TEXT/,/^.fi/p' "$root/command/pajurenda.1" | grep -v -e '^[.]' -e '^BypassRelay = ' | sed 's/\\-/-/g' >text
+	makes vendor.bin text sheet 2 38
 	same sheet wanted
 	cd "$root"
 }

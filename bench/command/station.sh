@@ -150,7 +150,7 @@ try_boot_unknown() {
 	done
 	log 'notify TempRamInit'
 	stumbles 41 1 "NotifyPhase \"TempRamInit\", expected $at_reset"
-	long=$(digits 30 | tr 5 a)
+	long=$(digits 30 | tr -d ' ' | tr 5 a)
 	log "$long"
 	stumbles 41 1 "call \"$(echo "$long" | head -c 40)..\", expected $at_reset"
 	log "%%s%%n\\n"

@@ -8,15 +8,15 @@ releases() { works 0 release "$all" --owner=1 "$@"; }
 makes_sheet() {
 	out=$1
 	shift
-	printf '%s\n' "$@" >"$i/text"
+	{ printf '%s\n' "$@" && cat "$work/bound"; } >"$i/text"
 	works 0 sheet make "$vendor" "$i/text" "$out"
 }
 
 # two sheets that overlap in offset 41, and the file that both make, at 0x00512000
 make_released() {
 	cd "$i"
-	makes_sheet one.sheet '40 0100' '100 AABBCCDD'
-	makes_sheet two.sheet '41 07' '200 F3' '300 112233'
+	makes_sheet one.sheet '40 01 00' '100 AA BB CC DD'
+	makes_sheet two.sheet '41 07' '200 F3' '300 11 22 33'
 	releases "$vendor" one.sheet keep first
 	releases first two.sheet 0x00512000 released
 	releases "$vendor" two.sheet keep other
@@ -24,12 +24,19 @@ make_released() {
 	cd "$root"
 }
 
+# what each of their entries replaces; the maker's image has F3 at 200 already
+set_28='set 0x0028 at 4136: 01 05 -> 01 00, 0x0501 -> 0x0001'
+set_64='set 0x0064 at 4196: 7F A4 C9 EE -> AA BB CC DD, 0xEEC9A47F -> 0xDDCCBBAA'
+set_29='set 0x0029 at 4137: 05 -> 07'
+set_C8='set 0x00C8 at 4296: F3, changes nothing'
+set_12C='set 0x012C at 4396: 67 8C B1 -> 11 22 33'
+
 # told VERDICT BASE MOVE SETTINGS STRAYS BITS LINE..: the whole output for the two sheets in their order
 told() {
 	verdict=$1 base=$2 move=$3 settings=$4 strays=$5 bits=$6
 	shift 6
-	prints "verdict $verdict" "base $base" "move $move" 'sheet 1 entries 2 one.sheet' 'sheet 2 entries 3 two.sheet' "settings $settings" \
-		"strays $strays" "bits $bits" "$@"
+	prints "verdict $verdict" "base $base" "move $move" 'sheet 1 entries 2 one.sheet' "$set_28" "$set_64" 'sheet 2 entries 3 two.sheet' "$set_29" \
+		"$set_C8" "$set_12C" "settings $settings" "strays $strays" "bits $bits" "$@"
 }
 
 # told_here SETTINGS STRAYS BITS LINE..: of a file at 0x00512000 that isn't the release
@@ -39,7 +46,7 @@ try_as_released() {
 	cd "$i"
 	works 0 verify "$vendor" one.sheet two.sheet released
 	told 'as released' 0x00512000 -4289126400 0 0 0
-	releases released "$work/nothing" 0 moved
+	releases released "$work/nothing" 0x0 moved
 	works 0 verify "$vendor" one.sheet two.sheet moved
 	told 'as released' 0x00000000 -4294443008 0 0 0
 	works 0 verify "$vendor" "$work/nothing" "$vendor"
@@ -55,11 +62,12 @@ try_as_released() {
 try_order() {
 	cd "$i"
 	works 1 verify "$vendor" two.sheet one.sheet released
-	prints 'verdict not as released' 'base 0x00512000' 'move -4289126400' 'sheet 1 entries 3 two.sheet' 'sheet 2 entries 2 one.sheet' 'settings 1' \
-		'strays 0' 'bits 3' "S 4137..4137 length 1 region offset 41 should 00 is 07, neither the sheet's nor the maker's, entry 0 of one.sheet"
+	prints 'verdict not as released' 'base 0x00512000' 'move -4289126400' 'sheet 1 entries 3 two.sheet' "$set_29" "$set_C8" \
+		"$set_12C" 'sheet 2 entries 2 one.sheet' "$set_28" "$set_64" 'settings 1' \
+		'strays 0' 'bits 3' "S 4137..4137 length 1 region offset 0x0029 should 00 is 07, neither the sheet's nor the maker's, entry 0 of one.sheet"
 	works 0 verify "$vendor" two.sheet one.sheet other
 	works 1 verify "$vendor" one.sheet two.sheet other
-	told_here 1 0 3 "S 4137..4137 length 1 region offset 41 should 07 is 00, neither the sheet's nor the maker's, entry 0 of two.sheet"
+	told_here 1 0 3 "S 4137..4137 length 1 region offset 0x0029 should 07 is 00, neither the sheet's nor the maker's, entry 0 of two.sheet"
 	cd "$root"
 }
 
@@ -68,18 +76,21 @@ try_still_makers() {
 	cd "$i"
 	releases first "$work/nothing" 0x00512000 half
 	works 1 verify "$vendor" one.sheet two.sheet half
-	told_here 4 0 15 "S 4137..4137 length 1 region offset 41 should 07 is 00, neither the sheet's nor the maker's, entry 0 of two.sheet" \
-		"S 4396..4398 length 3 region offset 300 should 112233 is $(bytes_at "$vendor" 4396 3), still as the maker's, entry 2 of two.sheet"
+	told_here 4 0 15 "S 4137..4137 length 1 region offset 0x0029 should 07 is 00, neither the sheet's nor the maker's, entry 0 of two.sheet" \
+		"S 4396..4398 length 3 region offset 0x012C should 11 22 33 is $(bytes_at "$vendor" 4396 3), still as the maker's, entry 2 of two.sheet"
 	works 1 verify "$vendor" one.sheet "$o/moved"
-	prints 'verdict not as released' 'base 0x00100000' 'move -4293394432' 'sheet 1 entries 2 one.sheet' 'settings 5' 'strays 0' "$(grep '^bits' "$work/out")" \
-		"S 4137..4137 length 1 region offset 41 should 00 is 05, still as the maker's, entry 0 of one.sheet" \
-		"S 4196..4199 length 4 region offset 100 should AABBCCDD is $(bytes_at "$vendor" 4196 4), still as the maker's, entry 1 of one.sheet"
+	prints 'verdict not as released' 'base 0x00100000' 'move -4293394432' 'sheet 1 entries 2 one.sheet' "$set_28" "$set_64" 'settings 5' 'strays 0' "$(grep '^bits' "$work/out")" \
+		"S 4137..4137 length 1 region offset 0x0029 should 00 is 05, still as the maker's, entry 0 of one.sheet" \
+		"S 4196..4199 length 4 region offset 0x0064 should AA BB CC DD = 0xDDCCBBAA is 7F A4 C9 EE = 0xEEC9A47F, still as the maker's, entry 1 of one.sheet"
 	rm half
 	cd "$root"
 }
 
-# bytes_at FILE POSITION COUNT: in hex
-bytes_at() { od -An -v -tx1 -j"$2" -N"$3" "$1" | tr -d ' \n' | tr a-f A-F; }
+# bytes_at FILE POSITION COUNT: in hex, apart
+bytes_at() { od -An -v -tx1 -j"$2" -N"$3" "$1" | tr -d '\n' | sed 's/^ //' | tr a-f A-F; }
+
+# pair_at FILE POSITION: two bytes of a setting, and the number that they are
+pair_at() { bytes_at "$1" "$2" 2 | sed 's/\(..\) \(..\)/\1 \2 = 0x\2\1/'; }
 
 # a byte in each room: of no sheet, in the middle of an entry (which splits it), in the region's header, in tables, words and elsewhere
 try_rooms() {
@@ -96,13 +107,13 @@ try_rooms() {
 	told_here 4 6 "$(sed -n 's/^bits //p' "$work/out")" "X 0..0 length 1 elsewhere should $(bytes_at released 0 1) is $(bytes_at t 0 1)" \
 		"X 136..136 length 1 tables should $(bytes_at released 136 1) is $(bytes_at t 136 1)" \
 		"X 4099..4100 length 2 region header should $(bytes_at released 4099 2) is $(bytes_at t 4099 2)" \
-		"S 4160..4161 length 2 region offset 64 should $(bytes_at released 4160 2) is $(bytes_at t 4160 2), no sheet sets it" \
-		"S 4197..4198 length 2 region offset 101 should BBCC is BCCD, neither the sheet's nor the maker's, entry 1 of one.sheet" \
+		"S 4160..4161 length 2 region offset 0x0040 should $(pair_at released 4160) is $(pair_at t 4160), no sheet sets it" \
+		"S 4197..4198 length 2 region offset 0x0065 should BB CC = 0xCCBB is BC CD = 0xCDBC, neither the sheet's nor the maker's, entry 1 of one.sheet" \
 		"X 4999..4999 length 1 patch word 1 should $(bytes_at released 4999 1) is $(bytes_at t 4999 1)" \
 		"X 8191..8191 length 1 patch word 3 should $(bytes_at released 8191 1) is $(bytes_at t 8191 1)"
 	poked released t 4196 "\\$(printf %o "0x$(bytes_at "$vendor" 4196 1)")"
 	works 1 verify "$vendor" one.sheet two.sheet t
-	[ "$(tail -n 1 "$work/out")" = "S 4196..4196 length 1 region offset 100 should AA is $(bytes_at "$vendor" 4196 1), still as the maker's, entry 1 of one.sheet" ] ||
+	[ "$(tail -n 1 "$work/out")" = "S 4196..4196 length 1 region offset 0x0064 should AA is $(bytes_at "$vendor" 4196 1), still as the maker's, entry 1 of one.sheet" ] ||
 		fail "a byte that is the maker's again"
 	passed
 	cd "$root"
@@ -111,29 +122,29 @@ try_rooms() {
 # side by side: a range ends where another entry or another sheet sets the next byte, and where that is the maker's again
 try_neighbours() {
 	cd "$i"
-	makes_sheet near.sheet '50 0102' '52 03'
-	makes_sheet next.sheet '53 0405'
+	makes_sheet near.sheet '50 01 02' '52 03'
+	makes_sheet next.sheet '53 04 05'
 	releases "$vendor" near.sheet keep near
 	releases near next.sheet keep near
 	flip near 4145 4151
 	works 1 verify "$vendor" near.sheet next.sheet near
-	sed 1,8d "$work/out" >"$work/ranges"
+	sed 1,11d "$work/out" >"$work/ranges"
 	neither="neither the sheet's nor the maker's"
-	lines "S 4145..4145 length 1 region offset 49 should $(bytes_at "$vendor" 4145 1) is $(bytes_at near 4145 1), no sheet sets it" \
-		"S 4146..4147 length 2 region offset 50 should 0102 is 0203, $neither, entry 0 of near.sheet" \
-		"S 4148..4148 length 1 region offset 52 should 03 is 04, $neither, entry 1 of near.sheet" \
-		"S 4149..4150 length 2 region offset 53 should 0405 is 0506, $neither, entry 0 of next.sheet" \
-		"S 4151..4151 length 1 region offset 55 should $(bytes_at "$vendor" 4151 1) is $(bytes_at near 4151 1), no sheet sets it"
+	lines "S 4145..4145 length 1 region offset 0x0031 should $(bytes_at "$vendor" 4145 1) is $(bytes_at near 4145 1), no sheet sets it" \
+		"S 4146..4147 length 2 region offset 0x0032 should 01 02 = 0x0201 is 02 03 = 0x0302, $neither, entry 0 of near.sheet" \
+		"S 4148..4148 length 1 region offset 0x0034 should 03 is 04, $neither, entry 1 of near.sheet" \
+		"S 4149..4150 length 2 region offset 0x0035 should 04 05 = 0x0504 is 05 06 = 0x0605, $neither, entry 0 of next.sheet" \
+		"S 4151..4151 length 1 region offset 0x0037 should $(bytes_at "$vendor" 4151 1) is $(bytes_at near 4151 1), no sheet sets it"
 	same "$work/ranges" "$work/wanted"
 	poke near 4147 "\\$(printf %o "0x$(bytes_at "$vendor" 4147 1)")"
 	poke near 4149 "\\$(printf %o "0x$(bytes_at "$vendor" 4149 1)")"
 	works 1 verify "$vendor" near.sheet next.sheet near
-	sed '1,9d; $d' "$work/out" >"$work/ranges"
-	lines "S 4146..4146 length 1 region offset 50 should 01 is 02, $neither, entry 0 of near.sheet" \
-		"S 4147..4147 length 1 region offset 51 should 02 is $(bytes_at "$vendor" 4147 1), still as the maker's, entry 0 of near.sheet" \
-		"S 4148..4148 length 1 region offset 52 should 03 is 04, $neither, entry 1 of near.sheet" \
-		"S 4149..4149 length 1 region offset 53 should 04 is $(bytes_at "$vendor" 4149 1), still as the maker's, entry 0 of next.sheet" \
-		"S 4150..4150 length 1 region offset 54 should 05 is 06, $neither, entry 0 of next.sheet"
+	sed '1,12d; $d' "$work/out" >"$work/ranges"
+	lines "S 4146..4146 length 1 region offset 0x0032 should 01 is 02, $neither, entry 0 of near.sheet" \
+		"S 4147..4147 length 1 region offset 0x0033 should 02 is $(bytes_at "$vendor" 4147 1), still as the maker's, entry 0 of near.sheet" \
+		"S 4148..4148 length 1 region offset 0x0034 should 03 is 04, $neither, entry 1 of near.sheet" \
+		"S 4149..4149 length 1 region offset 0x0035 should 04 is $(bytes_at "$vendor" 4149 1), still as the maker's, entry 0 of next.sheet" \
+		"S 4150..4150 length 1 region offset 0x0036 should 05 is 06, $neither, entry 0 of next.sheet"
 	same "$work/ranges" "$work/wanted"
 	rm near near.sheet next.sheet
 	cd "$root"
@@ -148,7 +159,7 @@ try_long_ranges() {
 	works 1 verify --text whole "$vendor" one.sheet two.sheet t
 	[ "$(tail -n 2 "$work/out" | head -n 1)" = "X 6500..6515 length 16 elsewhere should $(bytes_at released 6500 16) is $(bytes_at t 6500 16)" ] ||
 		fail "16 bytes"
-	[ "$(tail -n 1 "$work/out")" = "X 6600..6616 length 17 elsewhere should $(bytes_at released 6600 16).. is $(bytes_at t 6600 16).." ] || fail "17 bytes"
+	[ "$(tail -n 1 "$work/out")" = "X 6600..6616 length 17 elsewhere should $(bytes_at released 6600 16) .. is $(bytes_at t 6600 16) .." ] || fail "17 bytes"
 	[ "$(tail -n 1 whole)" = "X 6600..6616 length 17 elsewhere should $(bytes_at released 6600 17) is $(bytes_at t 6600 17)" ] || fail "17 bytes of the text"
 	passed
 	rm whole
@@ -181,8 +192,8 @@ try_verify_refusals() {
 	refuses 16 b "$rule_identity: the sheet is for 54524541542D3031 \"TREAT-01\" revision 0x02020304 extended 0x0000 version 2.2.3.4, \
 v is $(parts 0x0000 1.2.3.4)" verify v one.sheet b released
 	poked one.sheet b 16 '\037'
-	refuses 17 b "a setting must have a byte or more, at offsets 32 to z-1 of the region: entry 0 (counted from 0) has offset 31 length 2, \
-the region's size z is 400" verify v two.sheet b released
+	refuses 17 b "a setting must have a byte or more, at offsets 32 to z-1 of the region: entry 0 (counted from 0) has offset 0x001F length 2, \
+the region's size z is 0x0190" verify v two.sheet b released
 	head -c 8191 released >short
 	refuses 19 short 'the two images must be equally long: the file has 8191 bytes, v has 8192' verify v one.sheet two.sheet short
 	values 15 "$work/empty" 'the file has 0 bytes' verify v "$work/empty" short
@@ -197,21 +208,21 @@ try_verify_owners() {
 	printf '40 2 1\n100 4 1\n\n200 1 2\n300 3 2\n' >own
 	works 0 release --owners own --owner 1 v one.sheet 0x00512000 mine
 	works 0 verify --owners own --owner 1 v one.sheet mine
-	prints 'verdict as released' 'base 0x00512000' 'move -4289126400' 'sheet 1 entries 2 one.sheet' 'settings 0' 'strays 0' 'bits 0'
+	prints 'verdict as released' 'base 0x00512000' 'move -4289126400' 'sheet 1 entries 2 one.sheet' "$set_28" "$set_64" 'settings 0' 'strays 0' 'bits 0'
 	works 0 verify v one.sheet mine
 	works 0 verify "$all" --owner=1 v one.sheet two.sheet released
 	flip mine 4160 4160
 	works 1 verify --owners own --owner 1 v one.sheet mine
-	owned_by="entry 0 (counted from 0) has offset 40 length 2, owner 2 asks, offset 40 is owner 1's by own, line 1: 40 2 1"
+	owned_by="entry 0 (counted from 0) has offset 0x0028 length 2, owner 2 asks, offset 0x0028 is owner 1's by own, line 1: 0x0028 2 1"
 	refuses_alike 24 one.sheet "$rule_owner: $owned_by" --owners own --owner 2 v one.sheet
-	owned_by="entry 0 (counted from 0) has offset 41 length 1, owner 2 asks, offset 41 is owner 1's by own, line 1: 40 2 1"
+	owned_by="entry 0 (counted from 0) has offset 0x0029 length 1, owner 2 asks, offset 0x0029 is owner 1's by own, line 1: 0x0028 2 1"
 	refuses_alike 24 two.sheet "$rule_owner: $owned_by" --owners own --owner 2 v two.sheet
 	makes_sheet gap.sheet '200 01' '250 02'
-	owned_by="entry 1 (counted from 0) has offset 250 length 1, owner 2 asks, offset 250 is nobody's by own"
+	owned_by="entry 1 (counted from 0) has offset 0x00FA length 1, owner 2 asks, offset 0x00FA is nobody's by own"
 	refuses_alike 24 gap.sheet "$rule_owner: $owned_by" --owners own --owner 2 v gap.sheet
 	values 23 own 'the list is fine, --owner is 3' verify --owners own --owner 3 v one.sheet mine
 	printf '40 2 1\n41 1 2\n' >bad
-	values 23 bad "line 2: offset 41 (the one before ends at 42) length 1 owner 2, ranges so far 2, the region's size z is 400" \
+	values 23 bad "line 2: offset 0x0029 (the one before ends at 0x002A) length 1 owner 2, ranges so far 2, the region's size z is 0x0190" \
 		verify --owners bad --owner 1 v one.sheet mine
 	rm gap.sheet
 	try_owners_order
@@ -235,7 +246,7 @@ try_owners_order() {
 	head -c 30 one.sheet >b
 	values 15 b 'the file has 30 bytes, m 2, entry 1 (counted from 0) is cut short' verify --owners bad --owner 1 v b mine
 	poked one.sheet b 11 '\002'
-	values 23 bad "line 2: offset 41 (the one before ends at 42) length 1 owner 2, ranges so far 2, the region's size z is 400" \
+	values 23 bad "line 2: offset 0x0029 (the one before ends at 0x002A) length 1 owner 2, ranges so far 2, the region's size z is 0x0190" \
 		verify --owners bad --owner 1 v b mine
 	try 2 verify --owners own --owner 2 v b mine
 	prints 'refused 16'
@@ -303,8 +314,11 @@ b"
 
 # shellcheck disable=SC2016
 # spread: the ranges of a verify as the list of an audit with its bytes
-spread='/^[SX] / { split($2, ends, "[.][.]"); for (n = 1; n <= NF; n++) if ($n == "should") { want = $(n + 1); have = $(n + 3) }
-	sub(/,$/, "", have)
+spread='/^[SX] / { sub(/, .*/, ""); split($2, ends, "[.][.]"); side = ""; want = ""; have = ""
+	for (n = 5; n <= NF; n++)
+		if ($n == "should" || $n == "is" || $n == "=") side = $n
+		else if (side == "should") want = want $n
+		else if (side == "is") have = have $n
 	for (at = ends[1]; at <= ends[2]; at++) print $1, at, substr(want, 1 + 2 * (at - ends[1]), 2), substr(have, 1 + 2 * (at - ends[1]), 2) }'
 
 # each drawn sheet pair is released step by step; a copy with some bytes changed differs from it in what verify lists, and nothing else

@@ -14,8 +14,8 @@ help_is() {
 try_help() {
 	works 0 --help
 	cp "$work/out" "$work/help.all"
-	for word in read release 'sheet empty' 'sheet make' 'sheet show' 'owners all' 'owners show' setting audit verify handoff station help --modules --words --bytes \
-		--ranges --json --report --text --list --reports --owners --owner --version 'Exit status' ' 20  ROOM' ' 22  RESERVED' ' 23  OWNERS' ' 24  OWNER' \
+	for word in read release 'sheet empty' 'sheet start' 'sheet make' 'sheet show' 'must show' 'owners all' 'owners show' setting audit verify handoff station help --modules --words --bytes \
+		--ranges --json --report --text --list --reports --owners --owner --names --must --version 'Exit status' ' 20  ROOM' ' 22  RESERVED' ' 23  OWNERS' ' 24  OWNER' \
 		' 25  MODULE' ' 26  WORD' ' 27  RELOCATION' '1 to 12, 22, 13, 14, 25, 26, 27' '15, 23,' ' 33  KIND' ' 40  ORDER' ' 41  UNKNOWN'; do
 		grep -qF -e "$word" "$work/out" || fail "the help does not speak of $word"
 		passed
@@ -24,7 +24,7 @@ try_help() {
 		# shellcheck disable=SC2086
 		help_is all $words
 	done
-	for name in read release sheet owners setting audit verify handoff station; do
+	for name in read release sheet must owners setting audit verify handoff station; do
 		works 0 help "$name"
 		cp "$work/out" "$work/help.$name"
 		[ "$(head -n 1 "$work/out" | cut -d ' ' -f 1-3)" = "usage: pajurenda $name" ] || fail "no usage first"
@@ -37,16 +37,19 @@ try_help() {
 		done
 	done
 	for word in --modules --words; do grep -qF -e "$word" "$work/help.read" || fail "read's help has no $word"; done
-	for name in read release sheet; do
+	for name in read release; do
 		grep -qF -e 'extended number' "$work/help.$name" || fail "$name's help has no extended number"
 	done
 	grep -qF -e --ranges "$work/help.audit" || fail "audit's help has no --ranges"
 	for name in read sheet audit verify handoff; do
 		grep -qF -e --json "$work/help.$name" || fail "$name's help has no --json"
 	done
-	for word in --report --text --list --reports; do
+	for word in --report --text --list --reports --must; do
 		grep -qF -e "$word" "$work/help.audit" || fail "audit's help has no $word"
 		grep -qF -e "$word" "$work/help.verify" || fail "verify's help has no $word"
+	done
+	for name in sheet must owners setting audit verify; do
+		for word in --names --names-strict; do grep -qF -e "$word" "$work/help.$name" || fail "$name's help has no $word"; done
 	done
 	for word in --owners --owner; do grep -qF -e "$word" "$work/help.verify" || fail "verify's help has no $word"; done
 	for word in --owners --owner 'owners all'; do grep -qF -e "$word" "$work/help.release" || fail "release's help has no $word"; done
@@ -81,7 +84,9 @@ try_wrong_words() {
 	fails_with 'pajurenda: release: BASE and OUT are missing (see pajurenda release --help)' release "$all" --owner=1 a b
 	fails_with 'pajurenda: release: OUT is missing (see pajurenda release --help)' release "$all" --owner=1 a b 0
 	fails_with 'pajurenda: release: one word too many: "d" (see pajurenda release --help)' release "$all" --owner=1 a b 0 c d e
-	fails_with 'pajurenda: setting: LENGTH is missing (see pajurenda setting --help)' setting a 40
+	fails_with 'pajurenda: setting: OFFSET is missing (see pajurenda setting --help)' setting a
+	fails_with 'pajurenda: setting: LENGTH is missing; a NAME alone needs --names FILE (see pajurenda setting --help)' setting a 40
+	fails_with 'pajurenda: audit: --names-strict goes with --names FILE (see pajurenda audit --help)' audit --names-strict a b
 	fails_with 'pajurenda: audit: SHIPPED is missing (see pajurenda audit --help)' audit a
 	fails_with 'pajurenda: audit: SHIPPED is missing (see pajurenda audit --help)' audit --bytes a
 	fails_with 'pajurenda: audit: one word too many: "c" (see pajurenda audit --help)' audit a b c
@@ -103,7 +108,7 @@ try_wrong_options() {
 	fails_with 'pajurenda: audit: --bytes and --ranges exclude each other (see pajurenda audit --help)' \
 		audit --bytes "$vendor" "$shipped" --ranges
 	keeps "$o" fails_with 'pajurenda: release: unknown option -1 (see pajurenda release --help)' release "$all" --owner=1 "$vendor" "$work/nothing" -1 "$o/none"
-	keeps "$o" fails_with 'pajurenda: release: takes no option --words (see pajurenda release --help)' release "$all" --owner=1 --words "$vendor" "$work/nothing" 0 "$o/none"
+	keeps "$o" fails_with 'pajurenda: release: takes no option --words (see pajurenda release --help)' release "$all" --owner=1 --words "$vendor" "$work/nothing" 0x0 "$o/none"
 }
 
 # an option anywhere, and files that are named like one
@@ -132,8 +137,8 @@ try_options_anywhere() {
 		works 0 audit -- --bytes help
 		works 0 audit help -
 		fails_with 'pajurenda: --: No such file or directory' read -- --
-		keeps "$i" fails_with 'pajurenda: release: unknown option --out (see pajurenda release --help)' release "$all" --owner=1 v "$work/nothing" 0 --out
-		works 0 release "$all" --owner=1 v "$work/nothing" 0 -- --out
+		keeps "$i" fails_with 'pajurenda: release: unknown option --out (see pajurenda release --help)' release "$all" --owner=1 v "$work/nothing" 0x0 --out
+		works 0 release "$all" --owner=1 v "$work/nothing" 0x0 -- --out
 		same ./--out "$o/new"
 		rm -- --out
 	)
@@ -141,30 +146,38 @@ try_options_anywhere() {
 
 or_keep=", or keep for the image's own base"
 
-# misread NUMBER SENTENCE [MORE]: the number is refused as each of the words that are numbers, and nothing is written
+# no_base BASE SENTENCE: nothing is released to it
+no_base() {
+	keeps "$o" fails_with "pajurenda: release: BASE \"$1\" $2" release "$all" --owner=1 "$vendor" "$work/nothing" "$1" "$o/none"
+}
+
+# misread NUMBER SENTENCE [BASE]: the number is refused as each of the words that are numbers, as a base with a sentence of its own
 misread() {
-	keeps "$o" fails_with "pajurenda: release: BASE \"$1\" $2${3-}" release "$all" --owner=1 "$vendor" "$work/nothing" "$1" "$o/none"
+	no_base "$1" "${3-$2}"
 	fails_with "pajurenda: setting: OFFSET \"$1\" $2" setting "$vendor" "$1" 1
 	fails_with "pajurenda: setting: LENGTH \"$1\" $2" setting "$vendor" 40 "$1"
 }
 
 try_misread() {
-	misread 00512000 'starts with 0: write 0x00512000 for hex or 512000 for decimal'
-	misread 00100000 'starts with 0: write 0x00100000 for hex or 100000 for decimal'
-	misread 040 'starts with 0: write 0x040 for hex or 40 for decimal'
-	misread 00 'starts with 0: write 0x00 for hex or 0 for decimal'
-	misread 512000A 'has no 0x: write 0x512000A for hex'
-	misread FFF80000 'has no 0x: write 0xFFF80000 for hex'
-	misread 1e3 'has no 0x: write 0x1e3 for hex'
-	misread 0b1 'has no 0x: write 0x0b1 for hex'
+	no_x='has no 0x, and a base is hex: write'
+	misread 00512000 'starts with 0: write 0x00512000 for hex or 512000 for decimal' "$no_x 0x00512000, or 0x7D000 where 00512000 is decimal"
+	misread 00100000 'starts with 0: write 0x00100000 for hex or 100000 for decimal' "$no_x 0x00100000, or 0x186A0 where 00100000 is decimal"
+	misread 040 'starts with 0: write 0x040 for hex or 40 for decimal' "$no_x 0x040, or 0x28 where 040 is decimal"
+	misread 00 'starts with 0: write 0x00 for hex or 0 for decimal' "$no_x 0x00, or 0x0 where 00 is decimal"
+	no_base 512000 "$no_x 0x512000, or 0x7D000 where 512000 is decimal"
+	no_base 0 "$no_x 0x0, or 0x0 where 0 is decimal"
+	no_base 4294443008 "$no_x 0x4294443008, or 0xFFF80000 where 4294443008 is decimal"
+	misread 512000A 'has no 0x: write 0x512000A for hex' "$no_x 0x512000A"
+	misread FFF80000 'has no 0x: write 0xFFF80000 for hex' "$no_x 0xFFF80000"
+	misread 1e3 'has no 0x: write 0x1e3 for hex' "$no_x 0x1e3"
+	misread 0b1 'has no 0x: write 0x0b1 for hex' "$no_x 0x0b1"
 	misread 0X00512000 'has a capital X: write 0x00512000 for hex'
 	for number in '' x 0x 0X 0xg 0x1g x512000 512000h +1 ' 1' '1 ' 1.0 16,777,216 1_000 0x0x1 '0x 1' 0x-1; do
-		misread "$number" 'is not a number: write hex as 0x00512000, decimal without a leading 0' "$or_keep"
+		misread "$number" 'is not a number: write hex as 0x00512000, decimal without a leading 0' "is not hex: write it as 0x00512000$or_keep"
 	done
-	for number in 18446744073709551616 0x10000000000000000 99999999999999999999999 0x8000000000000000000; do
-		misread "$number" 'does not fit 64 bits'
-	done
-	fails_with "pajurenda: release: BASE \"1?2\" is not a number: write hex as 0x00512000, decimal without a leading 0$or_keep" release "$all" --owner=1 "$vendor" "$work/nothing" '1
+	for number in 0x10000000000000000 0x8000000000000000000; do misread "$number" 'does not fit 64 bits'; done
+	for number in 18446744073709551616 99999999999999999999999; do misread "$number" 'does not fit 64 bits' "$no_x 0x$number"; done
+	fails_with "pajurenda: release: BASE \"1?2\" is not hex: write it as 0x00512000$or_keep" release "$all" --owner=1 "$vendor" "$work/nothing" '1
 2' "$o/none"
 }
 
@@ -174,7 +187,7 @@ try_keep() {
 	prints 'base 0x00100000' 'move 0' 'entries 0'
 	same "$o/taken" "$o/moved"
 	for word in Keep KEEP 'keep ' keep. same; do
-		keeps "$o" fails_with "pajurenda: release: BASE \"$word\" is not a number: write hex as 0x00512000, decimal without a leading 0$or_keep" \
+		keeps "$o" fails_with "pajurenda: release: BASE \"$word\" is not hex: write it as 0x00512000$or_keep" \
 			release "$all" --owner=1 "$vendor" "$work/nothing" "$word" "$o/none"
 	done
 }
@@ -203,16 +216,16 @@ try_two_words() {
 		help_is sheet $words
 	done
 	sheet_see='(see pajurenda sheet --help)'
-	fails_with "pajurenda: sheet: empty, make or show is missing $sheet_see" sheet
-	fails_with "pajurenda: sheet: \"nonsense\" is none of empty, make and show $sheet_see" sheet nonsense a b
-	fails_with "pajurenda: sheet: \"help\" is none of empty, make and show $sheet_see" sheet help a
+	fails_with "pajurenda: sheet: empty, start, make or show is missing $sheet_see" sheet
+	fails_with "pajurenda: sheet: \"nonsense\" is none of empty, start, make and show $sheet_see" sheet nonsense a b
+	fails_with "pajurenda: sheet: \"help\" is none of empty, start, make and show $sheet_see" sheet help a
 	fails_with "pajurenda: help: one word too many: \"nonsense\" $see" help sheet nonsense
 	fails_with "pajurenda: help: one word too many: \"a\" $see" help sheet make a
 	fails_with "pajurenda: unknown command \"make\" $see" make a b c
 	fails_with "pajurenda: unknown command \"sheet make\" $see" 'sheet make' a b c
 	fails_with "pajurenda: unknown command \"she\" $see" she make a b c
 	fails_with "pajurenda: unknown command \"sheets\" $see" sheets make a b c
-	fails_with "pajurenda: sheet: \"maker\" is none of empty, make and show $sheet_see" sheet maker a b c
+	fails_with "pajurenda: sheet: \"maker\" is none of empty, start, make and show $sheet_see" sheet maker a b c
 	fails_with 'pajurenda: sheet empty: IMAGE and OUT are missing (see pajurenda sheet empty --help)' sheet empty
 	fails_with 'pajurenda: sheet make: TEXT and OUT are missing (see pajurenda sheet make --help)' sheet make a
 	fails_with 'pajurenda: sheet make: one word too many: "d" (see pajurenda sheet make --help)' sheet make a b c d
@@ -227,18 +240,16 @@ try_two_words() {
 
 # digits of either case and any count of zeros after 0x; decimal as it is
 try_taken() {
-	for base in 0x512000 0x0512000 0x00512000 0x000000000000000000512000 5316608; do
+	for base in 0x512000 0x0512000 0x00512000 0x000000000000000000512000; do
 		works 0 release "$all" --owner=1 "$vendor" "$work/nothing" "$base" "$o/taken"
 		prints 'base 0x00512000' 'move -4289126400' 'entries 0'
 	done
-	for base in 0xfff80000 0xFfF80000 4294443008; do
+	for base in 0xfff80000 0xFfF80000; do
 		works 0 release "$all" --owner=1 "$vendor" "$work/nothing" "$base" "$o/taken"
 		prints 'base 0xFFF80000' 'move 0' 'entries 0'
 	done
-	works 0 release "$all" --owner=1 "$vendor" "$work/nothing" 512000 "$o/taken"
-	prints 'base 0x0007D000' 'move -4293931008' 'entries 0'
 	works 0 setting "$vendor" 0x28 0x2
-	prints 'place 4136' 'length 2' 'bytes 01 05'
+	prints 'offset 0x0028' 'place 4136' 'length 2' 'bytes 01 05' 'number 0x0501'
 }
 
 try_help

@@ -3,8 +3,8 @@
 
 # a limit to the size of files, as a full disk has it: some bytes go, then no more
 try_limit() {
-	keeps "$o" limited 'File too large' release "$all" --owner=1 "$vendor" "$work/nothing" 0 "$o/out"
-	keeps "$o" limited 'File too large' release "$all" --owner=1 "$vendor" "$work/nothing" 0 "$o/none"
+	keeps "$o" limited 'File too large' release "$all" --owner=1 "$vendor" "$work/nothing" 0x0 "$o/out"
+	keeps "$o" limited 'File too large' release "$all" --owner=1 "$vendor" "$work/nothing" 0x0 "$o/none"
 	keeps "$o" limited 'File too large' release "$all" --owner=1 "$vendor" "$work/sheet" keep "$o/out"
 	ways="$ways, a limit to file sizes"
 }
@@ -26,9 +26,9 @@ try_disk() {
 	cp "$work/old" "$work/disk/out"
 	keeps "$work/disk" errs 'No space left' release "$all" --owner=1 "$work/large" "$work/nothing" 0xff000000 "$work/disk/out"
 	keeps "$work/disk" errs 'No space left' release "$all" --owner=1 "$work/large" "$work/nothing" 0xff000000 "$work/disk/none"
-	try 0 release "$all" --owner=1 "$vendor" "$work/nothing" 0 "$work/disk/small"
+	try 0 release "$all" --owner=1 "$vendor" "$work/nothing" 0x0 "$work/disk/small"
 	mount -o remount,ro "$work/disk"
-	keeps "$work/disk" errs 'Read-only file system' release "$all" --owner=1 "$vendor" "$work/nothing" 0 "$work/disk/out"
+	keeps "$work/disk" errs 'Read-only file system' release "$all" --owner=1 "$vendor" "$work/nothing" 0x0 "$work/disk/out"
 	keeps "$work/disk" errs 'Read-only file system' release "$all" --owner=1 "$vendor" "$work/sheet" keep "$work/disk/none"
 	umount "$work/disk"
 	mounted=

@@ -37,7 +37,7 @@ builds_again() {
 calls=1
 for file in crates/table/src/lib.rt crates/audit_count/specs/Differences.antt crates.txt; do
 	case $file in
-	*.txt) sed -i 's/^walk: facts/walk:  facts/' "$clone/$file" ;;
+	*.txt) sed -i 's/: facts/:  facts/' "$clone/$file" ;;
 	*) echo >>"$clone/$file" ;;
 	esac
 	calls=$((calls + 1))

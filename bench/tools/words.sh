@@ -29,6 +29,9 @@ try 1 "$audit" "$short/data/vendor.bin" "$short/data/shipped.bin"
 (cd "$work" && try 1 "$audit" -- -v -s && prints "$work/sample")
 try 1 "$audit" --bytes
 prints "$work/bytes"
+printf 'identity 54524541542D3031\nrevision 0x01020304\nbase 0x00100000\n0x28 00\n' >"$work/must"
+try 1 "$audit" --must "$work/must"
+[ "$(tail -n 1 "$work/out")" = 'verdict unexplained, as required' ] || fail "--must was not followed"
 ln -s "$audit" "$work/by-link"
 try 1 "$work/by-link"
 prints "$work/sample"
