@@ -7,7 +7,7 @@ use mathlib.Core.Path.{_≡_, refl, sym, ap, _∙_}
 use lib.Dec.{eqb}
 use lib.ListN.{length}
 use Rattle.facts.specs.Fact.{_≤?_, _≡?_, test}
-use Rattle.facts.specs.Rules.{Rules, answer, rule, run}
+use Rattle.facts.specs.Rules.{Rules, run}
 use Rattle.facts.specs.Exactly.{Fails, Exact}
 use Rattle.facts.specs.RulesLaws.{no-zero}
 use Rattle.facts.specs.ExactlyLaws.{Accepts, exact, fails-first, somewhere}
@@ -19,7 +19,7 @@ use Rattle.answers.specs.ExactlyAfterLaws.{after-exact}
 use Rattle.reading_rules.specs.Reading.{refusal, accepted, rules, reading}
 use Rattle.sheet.specs.declared.SheetReading.{SheetReading}
 use Rattle.sheet.specs.Sheet.{sheetFits}
-use Rattle.sheet.specs.ReadSheet.{refusedSheet, sheetReading}
+use Rattle.sheet.specs.ReadSheet.{sheetReading}
 use Rattle.setting.specs.Setting.{settingFits, settingNumber}
 use Rattle.answers.specs.declared.Moved.{Moved}
 use Rattle.move_answer.specs.MoveAnswer.{refusedMove}

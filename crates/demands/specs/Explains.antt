@@ -1,8 +1,7 @@
 -- Demand 3: what it is for a legal base and some setting bytes to turn the vendor image into the shipped one.
 -- Assumes nothing.
-use Prim.Native.Nat.{ℕ, _+_, _-_, _≤_, _<_}
+use Prim.Native.Nat.{ℕ}
 use mathlib.Core.List.{List}
-use mathlib.Core.Logic.{_⊎_}
 use mathlib.Core.Path.{_≡_}
 use lib.ListN.{length, getD}
 use Rattle.facts.specs.Fact.{Holds}

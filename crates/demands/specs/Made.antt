@@ -1,5 +1,4 @@
--- What the library makes of the vendor image by accepted releases, one after the other: the vendor image moved to the last base, but for
--- the settings part.
+-- What the library makes of the vendor image by accepted releases, one after the other.
 -- Assumes nothing.
 use mathlib.Core.Path.{_≡_}
 use mathlib.Core.List.{List}

@@ -1,5 +1,4 @@
--- What is explained can be made: one release, some sheet and the base, by owner 1 of the list that gives it every setting, turns the vendor
--- image into the shipped file.
+-- What it is for a release to make a file of an image.
 -- Assumes nothing.
 use Prim.Native.Nat.{ℕ}
 use mathlib.Core.List.{List}

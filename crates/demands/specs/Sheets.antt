@@ -9,7 +9,8 @@ use lib.ListN.{length, getD, length-append}
 use lib.Seq.{getD-append-add}
 use Rattle.facts.specs.Fact.{Holds}
 use Rattle.words.specs.Le.{le, Bytes}
-use Rattle.words.specs.Number.{number, length-number, le-front, le-back, le-number, bytes-append, bytes-number}
+use Rattle.words.specs.Number.{number}
+use Rattle.words.specs.NumberLaws.{length-number, le-front, le-back, le-number, bytes-append, bytes-number}
 use Rattle.answers.specs.declared.Identity.{Identity}
 use Rattle.sheet.specs.Sheet.{sheetIdentity, count, offset, size, position, bodyAt, contentsFit, bodiesFit, sameIdentity, fieldFits, Sound}
 

@@ -1,5 +1,4 @@
--- Request #107: all items of a volume, and one cursor that goes through them: the walk over files and sections, and in each module the walk
--- over its headers and blocks.
+-- Request #107: all items of a volume, those of its files and sections and of each module in them.
 -- Assumes nothing.
 use Rattle.inside_files.specs.Parts.{sectionPart}
 use Prim.Native.Nat.{ℕ, _+_}

@@ -1,4 +1,4 @@
--- Request #107: what rules 25, 26 and 27 judge of each item, and which bytes of the items are looked at.
+-- Request #107: what rules 25, 26 and 27 judge of each item.
 -- Assumes nothing.
 use Rattle.items.specs.Items.{alienKind, brokenKind, keptKind, lostKind, wordKind}
 use Prim.Native.Nat.{ℕ, _+_}

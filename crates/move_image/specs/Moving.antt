@@ -1,4 +1,4 @@
--- Document 01, "Moving": what is added to which words (`wordsOf`, of `reading_rules`), and the answer.
+-- Document 01, "Moving": what is added to which words (`wordsOf`, of `reading_rules`).
 -- Assumes nothing.
 use Prim.Native.Nat.{ℕ}
 use mathlib.Core.List.{List}

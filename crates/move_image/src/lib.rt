@@ -1,5 +1,4 @@
-// Document 01, "Moving": the words of a move, and how far it goes. The release calls these.
-use answers::Moved;
+// Document 01, "Moving": the words of a move. The release calls these.
 use answers::Reading;
 ghost use mathlib.Core.Path.{_≡_};
 ghost use Prim.Native.Nat.{_+_, _*_, _^_, _≤_, _<_};

@@ -1,4 +1,4 @@
-// Document 02, #106: the owner list, and whether a sheet's bytes are all of one owner's.
+// Document 02, #106: the owner list and its rule. Whether a sheet's bytes are all of one owner's is `owners_check`.
 ghost use mathlib.Core.Path.{_≡_};
 ghost use Prim.Native.Nat.{_+_, _-_, _*_, _≤_, _<_};
 ghost use lib.ListN.{length};

@@ -1,4 +1,4 @@
--- Request #108: which calls are taken from reset on, as the request says it, and that these are the sequences without a refusal.
+-- Request #108: which calls are taken from reset on, as the request says it.
 -- Assumes nothing.
 use Prim.Native.Nat.{ℕ}
 use mathlib.Core.List.{List, [], _∷_}
