@@ -12,7 +12,7 @@ enum status { FINE = 0, UNEXPLAINED = 1, FAILED = 2 };
 enum option {
 	HELP = 1, VERSION = 2, BYTES = 4, RANGES = 8, WORDS = 16, JSON = 32, OWNERS = 64, OWNER = 128,
 	REPORT = 256, TEXT = 512, LIST = 1024, REPORTS = 2048, MODULES = 4096, NAMES = 8192,
-	STRICT = 16384, MUST = 32768
+	STRICT = 16384, MUST = 32768, AT_BASE = 65536, AS_HEX = 131072
 };
 
 /* The options of a command line, and the values of those that have one; NULL where it isn't given. */
@@ -21,6 +21,7 @@ struct options {
 	const char *owners, *owner;
 	const char *report, *text, *list, *reports;
 	const char *names, *must;
+	const char *base, *hex;
 };
 
 /* A file's bytes in memory; never at NULL once loaded, even where empty. */
@@ -55,6 +56,8 @@ enum status do_setting(char **word, const struct options *options);
 enum status do_audit(char **word, const struct options *options);
 enum status do_verify(char **word, const struct options *options);
 enum status do_handoff(char **word, const struct options *options);
+enum status do_hex_export(char **word, const struct options *options);
+enum status do_hex_import(char **word, const struct options *options);
 enum status do_station(char **word, const struct options *options);
 
 #endif

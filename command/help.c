@@ -20,8 +20,8 @@ static const struct command commands[] = {
 	{ "read", { "IMAGE" }, MODULES | WORDS | JSON, do_read,
 	  "[--modules] [--words] [--json] IMAGE", NULL,
 	  "shows what an image's header says, its modules and the words of a move", read_help },
-	{ "release", { "IMAGE", "SHEET", "BASE", "OUT" }, OWNERS | OWNER, do_release,
-	  "--owners LIST --owner N IMAGE SHEET BASE OUT", NULL,
+	{ "release", { "IMAGE", "SHEET", "BASE", "OUT" }, OWNERS | OWNER | AS_HEX, do_release,
+	  "--owners LIST --owner N [--hex FILE] IMAGE SHEET BASE OUT", NULL,
 	  "writes the image with a sheet's settings, moved to a base", release_help },
 	{ "sheet empty", { "IMAGE", "OUT" }, 0, do_sheet_empty, "IMAGE OUT", NULL,
 	  "writes the sheet that sets nothing", sheet_help },
@@ -53,6 +53,11 @@ static const struct command commands[] = {
 	  "                        [--names FILE] [--must FILE] VENDOR SHEET.. SHIPPED",
 	  "[--owners LIST --owner N] [--must FILE] --list FILE [--reports FOLDER]",
 	  "says whether a shipped file is what releasing with these sheets makes", verify_help },
+	{ "hex export", { "IMAGE", "OUT" }, AT_BASE | JSON, do_hex_export,
+	  "[--base BASE] [--json] IMAGE OUT", NULL,
+	  "writes an image as Intel HEX, for a flash programmer", hex_help },
+	{ "hex import", { "TEXT", "OUT" }, JSON, do_hex_import, "[--json] TEXT OUT", NULL,
+	  "writes the image that such a text is of", hex_help },
 	{ "handoff", { "DUMP" }, JSON, do_handoff, "[--json] DUMP", NULL,
 	  "shows the hand-off blocks that firmware left", handoff_help },
 	{ "station", { "LOG" }, 0, do_station, "LOG", NULL,
@@ -66,6 +71,7 @@ static const struct group groups[] = {
 	{ "sheet", "empty, start, make or show is missing", "\" is none of empty, start, make and show" },
 	{ "must", "show is missing", "\" is not show" },
 	{ "owners", "all or show is missing", "\" is neither all nor show" },
+	{ "hex", "export or import is missing", "\" is neither export nor import" },
 };
 
 /* Commands that were, and what to type instead. */
@@ -181,9 +187,11 @@ static void show_general(void)
 	show_refusals(PAJURENDA_RESERVED, PAJURENDA_RELOCATION);
 	show_refusals(PAJURENDA_BLOCK, PAJURENDA_KIND);
 	show_refusals(PAJURENDA_ORDER, PAJURENDA_UNKNOWN);
+	show_refusal(PAJURENDA_TEXT);
+	show_refusal(PAJURENDA_SPACE);
 	puts("\nAn image is judged in the order 1 to 12, 22, 13, 14, 25, 26, 27, a release then 15, 23,\n"
-	     "16, 17, 24, 18; the first that applies is told. The lists here are as long as they must\n"
-	     "be, so 20 is for other callers.");
+	     "16, 17, 24, 18, an export 1, 18; the first that applies is told. The lists and outputs\n"
+	     "here are as long as they must be, so 20 and 53 are for other callers.");
 }
 
 /* The help on one subcommand, or on all where it is NULL. */
@@ -197,7 +205,7 @@ enum status show_help(const struct command *command)
 	printf("\n%s", command->help);
 	if (command->run == do_release)
 		fputs(out_help, stdout);
-	if (command->help == sheet_help || command->help == owners_help)
+	if (command->help == sheet_help || command->help == owners_help || command->help == hex_help)
 		fputs(made_out_help, stdout);
 	if ((command->options & NAMES) != 0 || command->help == sheet_help || command->help == owners_help)
 		fputs(names_help, stdout);

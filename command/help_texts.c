@@ -37,6 +37,8 @@ const char release_help[] =
 	"               release with the same LIST. Nothing is released without one: `owners all`\n"
 	"               writes the LIST that gives every setting to owner 1.\n"
 	"--owner N      who releases, 1 or 2: SHEET may set the bytes of N's ranges and no others.\n"
+	"--hex FILE     also writes the released image, at BASE, as Intel HEX to FILE (see pajurenda hex\n"
+	"               --help), before OUT: where FILE can't be written OUT is as it was.\n"
 	"\n"
 	"BASE is hex with 0x, as every base is shown (0x00512000): a multiple of 4096, base plus length\n"
 	"at most 2^32. `keep` is the base that IMAGE is at, so that the release only sets. With the\n"
@@ -195,6 +197,23 @@ const char audit_status_help[] =
 const char verify_status_help[] =
 	"\nExit status: 0 as released, 1 not as released or not as required, 2 refused or failed.\n";
 
+const char hex_help[] =
+	"export  writes to OUT the bytes of IMAGE as Intel HEX, the text that a flash programmer takes.\n"
+	"        Shows the base and how many characters the text has.\n"
+	"import  writes to OUT the bytes that the file TEXT has. It takes exactly what `hex export` writes:\n"
+	"        small letters, carriage returns, other records or another order, a wrong sum or anything\n"
+	"        after the end record are refused with 50. Shows the base and how many bytes there are.\n"
+	"\n"
+	"A record carries 16 bytes, the last one what is left. A record with the upper 16 bits of the address\n"
+	"(type 04) opens the text and stands before the data of every further 64 KiB. Digits are capitals,\n"
+	"lines end in a line feed alone, and the end record closes the text.\n"
+	"\n"
+	"--base BASE  the address of the first byte, hex with 0x: a multiple of 4096, base plus length at\n"
+	"             most 2^32. Without it, or with `keep`, it is the base that IMAGE is at, and IMAGE must\n"
+	"             read; with it any 72 to 16777216 bytes are taken. No byte of IMAGE is changed by it:\n"
+	"             `release` moves, and has --hex.\n"
+	"--json       one JSON document in place of the lines.\n";
+
 const char handoff_help[] =
 	"Shows the hand-off blocks that firmware left in memory, from the first byte of DUMP up to\n"
 	"the end block: place, type (by the PI specification's name), length, and what a block of\n"
@@ -254,7 +273,7 @@ const char general_help[] =
 	"Options may stand before or after the files; `--` ends them. A file named like an option\n"
 	"or `help` is given as ./NAME. `--owners=LIST` is `--owners LIST`. A file longer than 16777216\n"
 	"bytes is refused as an image: with 1, as SHIPPED with 19, as SHEET with 15, as LIST with 23\n"
-	"where it is no text; as TEXT or LOG it is an error. A file that can't be read is an error, not an\n"
+	"where it is no text; as TEXT or LOG it is an error; a text of Intel HEX may be longer. A file that can't be read is an error, not an\n"
 	"empty image.\n"
 	"\n"
 	"Exit status: 0 done (audit: explained; verify: as released), 1 audit: unexplained, verify:\n"

@@ -15,6 +15,7 @@ extern const char verify_help[];
 extern const char check_help[];
 extern const char audit_status_help[];
 extern const char verify_status_help[];
+extern const char hex_help[];
 extern const char handoff_help[];
 extern const char station_help[];
 extern const char out_help[];

@@ -42,6 +42,8 @@ static const struct known option_names[] = {
 	{ "--names", NAMES, " has no FILE after it" },
 	{ "--names-strict", STRICT, NULL },
 	{ "--must", MUST, " has no FILE after it" },
+	{ "--base", AT_BASE, " has no BASE after it" },
+	{ "--hex", AS_HEX, " has no FILE after it" },
 };
 
 #define OPTION_NAMES (sizeof option_names / sizeof option_names[0])
@@ -93,6 +95,8 @@ static const char **place_of(struct options *options, unsigned option)
 	case LIST: return &options->list;
 	case NAMES: return &options->names;
 	case MUST: return &options->must;
+	case AT_BASE: return &options->base;
+	case AS_HEX: return &options->hex;
 	default: return &options->reports;
 	}
 }

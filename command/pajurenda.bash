@@ -9,9 +9,10 @@ _pajurenda_word()
 	sheet:0) echo sheets ;;
 	must:0) echo musts ;;
 	owners:0) echo lists ;;
+	hex:0) echo texts ;;
 	release:2) echo bases ;;
 	read:0 | release:[013] | setting:0 | audit:[01] | verify:* | handoff:0 | station:0) echo files ;;
-	sheet\ empty:[01] | sheet\ start:[01] | sheet\ make:[012] | sheet\ show:[01] | owners\ all:[01] | owners\ show:[01] | must\ show:[01]) echo files ;;
+	sheet\ empty:[01] | sheet\ start:[01] | sheet\ make:[012] | sheet\ show:[01] | owners\ all:[01] | owners\ show:[01] | must\ show:[01] | hex\ export:[01] | hex\ import:[01]) echo files ;;
 	*) echo nothing ;;
 	esac
 }
@@ -27,7 +28,9 @@ _pajurenda_options()
 	handoff) echo '--json --help' ;;
 	sheet\ show) echo '--json --names --names-strict --help' ;;
 	setting | sheet\ start | sheet\ make | owners\ show | must\ show) echo '--names --names-strict --help' ;;
-	release) echo '--owners --owner --help' ;;
+	release) echo '--owners --owner --hex --help' ;;
+	hex\ export) echo '--base --json --help' ;;
+	hex\ import) echo '--json --help' ;;
 	*) echo '--help' ;;
 	esac
 }
@@ -37,7 +40,7 @@ _pajurenda_take()
 {
 	if [[ -z $command ]]; then
 		command=$1
-	elif [[ $command == sheet || $command == owners || $command == must ]]; then
+	elif [[ $command == sheet || $command == owners || $command == must || $command == hex ]]; then
 		command="$command $1"
 	else
 		words=$((words + 1))
@@ -49,7 +52,8 @@ _pajurenda_kind()
 {
 	case $value:$ended$current in
 	--owner:*) echo numbers ;;
-	--owners:* | --report:* | --text:* | --list:* | --reports:* | --names:* | --must:*) echo files ;;
+	--base:*) echo bases ;;
+	--owners:* | --report:* | --text:* | --list:* | --reports:* | --names:* | --must:* | --hex:*) echo files ;;
 	:-*) echo options ;;
 	*) _pajurenda_word "$command" "$words" ;;
 	esac
@@ -64,7 +68,7 @@ _pajurenda_pass()
 	fi
 	case $ended$1 in
 	--) ended=yes ;;
-	--owners | --owner | --report | --text | --list | --reports | --names | --must) value=$1 ;;
+	--owners | --owner | --report | --text | --list | --reports | --names | --must | --base | --hex) value=$1 ;;
 	-?*) ;;
 	*) _pajurenda_take "$1" ;;
 	esac
@@ -81,10 +85,11 @@ _pajurenda()
 	case $(_pajurenda_kind) in
 	options) offered=$(_pajurenda_options "$command") ;;
 	numbers) offered='1 2' ;;
-	commands) offered='read release sheet must owners setting audit verify handoff station help' ;;
-	topics) offered='read release sheet must owners setting audit verify handoff station' ;;
+	commands) offered='read release sheet must owners setting audit verify hex handoff station help' ;;
+	topics) offered='read release sheet must owners setting audit verify hex handoff station' ;;
 	sheets) offered='empty start make show' ;;
 	lists) offered='all show' ;;
+	texts) offered='export import' ;;
 	musts) offered='show' ;;
 	bases) offered='keep' ;;
 	files)

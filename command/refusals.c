@@ -76,6 +76,12 @@ enum status refuse_new_base(const struct named *image, uint64_t base)
 	return refuse_base(image, "the new", base);
 }
 
+/* 18 of an export: the base that was asked for. */
+enum status refuse_text_base(const struct named *image, uint64_t base)
+{
+	return refuse_base(image, "the text's", base);
+}
+
 /* 18 of an audit: the base that the shipped file says, at the vendor's place of it. */
 enum status refuse_shipped_base(const struct named *shipped, uint64_t position)
 {

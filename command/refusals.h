@@ -40,6 +40,7 @@ enum status refuse_byte(const struct named *sheet, const struct asked *asked, ui
 			const struct owners *owners, uint64_t owner);
 enum status refuse_setting(const struct named *image, const struct asked *asked, uint64_t size);
 enum status refuse_new_base(const struct named *image, uint64_t base);
+enum status refuse_text_base(const struct named *image, uint64_t base);
 enum status refuse_shipped_base(const struct named *shipped, uint64_t position);
 enum status refuse_handoff(uint32_t number, uint64_t place, const struct named *dump);
 enum status refuse_pair(const struct named *vendor, const struct named *shipped);

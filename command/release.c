@@ -3,9 +3,11 @@
 #include <stdbool.h>
 #include <stdio.h>
 #include <stdlib.h>
+#include <string.h>
 
 #include "changes.h"
 #include "files.h"
+#include "hex_text.h"
 #include "messages.h"
 #include "numbers.h"
 #include "pajurenda.h"
@@ -17,6 +19,7 @@ struct releasing {
 	struct owners owners;
 	struct asking asking;
 	struct base base;
+	const char *hex; /* where the text goes, or NULL */
 };
 
 /* What a release shows: the base, how far it moved, how many entries of the sheet were set, and each of them
@@ -32,6 +35,24 @@ static enum status show_release(uint64_t base, const uint8_t *answer, const stru
 	return show_changes(before, sheet, NULL);
 }
 
+/* The released image as Intel HEX at its base, where that is asked for; false after a message. */
+static bool save_hex(const struct releasing *r)
+{
+	struct bytes text = { .at = NULL };
+	bool saved = true;
+	if (r->hex == NULL)
+		return true;
+	const uint32_t number = make_hex(&r->image.bytes, r->asking.base, &text);
+	if (number == PAJURENDA_ACCEPTED) {
+		saved = save(r->hex, &text);
+	} else {
+		saved = false;
+		(void)(number == PAJURENDA_SHORT ? fail_no_memory(r->hex) : fail_answer());
+	}
+	free(text.at);
+	return saved;
+}
+
 /* The loaded image released and saved; told beside the image as it was. */
 static enum status release_to(struct releasing *r, const struct bytes *before, const char *out)
 {
@@ -43,7 +64,7 @@ static enum status release_to(struct releasing *r, const struct bytes *before, c
 	const uint32_t number = release_by(&r->image.bytes, &r->asking, answer);
 	if (number != PAJURENDA_ACCEPTED)
 		return refuse_release(number, &r->asking);
-	if (!save(out, &r->image.bytes))
+	if (!save_hex(r) || !save(out, &r->image.bytes))
 		return FAILED;
 	return show_release(r->asking.base, answer, before, &r->sheet.bytes);
 }
@@ -84,11 +105,31 @@ static enum status fail_unowned(const struct options *options)
 			  "setting to owner 1");
 }
 
-/* release --owners LIST --owner N IMAGE SHEET BASE OUT */
+/* FILE is none of the inputs, and not OUT; false after a message. */
+static bool is_hex_apart(const struct releasing *r, const char *out)
+{
+	const char *input = NULL;
+	if (r->hex == NULL)
+		return true;
+	if (strcmp(r->hex, out) == 0 || is_same_file(r->hex, out))
+		input = "OUT";
+	if (is_same_file(r->hex, r->owners.name))
+		input = "LIST";
+	if (is_same_file(r->hex, r->sheet.name))
+		input = "SHEET";
+	if (is_same_file(r->hex, r->image.name))
+		input = "IMAGE";
+	if (input == NULL)
+		return true;
+	fail_usage("release", "the file for --hex is ", input, " itself, which would be lost");
+	return false;
+}
+
+/* release --owners LIST --owner N [--hex FILE] IMAGE SHEET BASE OUT */
 enum status do_release(char **word, const struct options *options)
 {
 	struct releasing r = { .image = { .name = word[0] }, .sheet = { .name = word[1] },
-			       .owners = { .name = options->owners } };
+			       .owners = { .name = options->owners }, .hex = options->hex };
 	if (options->owners == NULL || options->owner == NULL)
 		return fail_unowned(options);
 	if (!take_base("release", word[2], &r.base) ||
@@ -98,5 +139,7 @@ enum status do_release(char **word, const struct options *options)
 		return fail_lost("release", "SHEET");
 	if (is_same_file(r.owners.name, word[3]))
 		return fail_lost("release", "LIST");
+	if (!is_hex_apart(&r, word[3]))
+		return FAILED;
 	return release_files(&r, word[3]);
 }

@@ -1,7 +1,7 @@
 /*
  * pajurenda: reads, releases (sets and moves) and audits one firmware support image (FSP) in lent
- * memory, reads the list of hand-off blocks that firmware leaves after a boot, and follows the order in
- * which a boot calls the firmware.
+ * memory, reads the list of hand-off blocks that firmware leaves after a boot, follows the order in
+ * which a boot calls the firmware, and writes and reads the Intel HEX text of an image.
  *
  * A slice passes as a pointer and then its length in bytes. No pointer may be null, even where the
  * length is 0. A buffer that is written (an image to release, a list of places, an answer) must not
@@ -12,11 +12,11 @@
  * Each call writes its answer into the caller's answer buffer: 64-bit little-endian numbers at the
  * offsets named below, from the buffer's first byte. Bytes after the answer are kept. The call
  * returns the answer's number: 0 where accepted, else that of the refusal (images 1 to 20 and 22 to
- * 27, hand-off blocks 30 to 33). Where the answer buffer is shorter than the answer, the call returns
+ * 27, hand-off blocks 30 to 33, Intel HEX 1, 18, 50 and 53). Where the answer buffer is shorter than the answer, the call returns
  * PAJURENDA_SHORT and nothing at all is written anywhere. The calls of the station have no answer but
  * the number they return (40 and 41 are theirs), and a state in the answer buffer's place.
  *
- * A refused call changes no byte of an image, of a list or of a state.
+ * A refused call changes no byte of an image, of a list, of a state or of an output.
  *
  * Small inline functions at the end read a field of an answer, a place of the audit's list and an
  * entry of the list of contents, make an image's empty sheet and the owner list that gives all its
@@ -34,9 +34,9 @@ extern "C" {
 #endif
 
 /* The version of header and library: the whole, and its three numbers. */
-#define PAJURENDA_VERSION "0.13.0"
+#define PAJURENDA_VERSION "0.14.0"
 #define PAJURENDA_VERSION_MAJOR 0
-#define PAJURENDA_VERSION_MINOR 13
+#define PAJURENDA_VERSION_MINOR 14
 #define PAJURENDA_VERSION_PATCH 0
 
 /* The answer's number. A check is made only if all earlier ones passed. */
@@ -74,6 +74,8 @@ enum {
 	PAJURENDA_KIND = 33,      /* a resource, GUID or end block of a length it can't have */
 	PAJURENDA_ORDER = 40,     /* a call of a boot out of order */
 	PAJURENDA_UNKNOWN = 41,   /* a call or notification that there is none of; before 40 */
+	PAJURENDA_TEXT = 50,      /* a text that isn't what an export writes */
+	PAJURENDA_SPACE = 53,     /* the output is too short for what is to be written */
 	PAJURENDA_SHORT = 100     /* the answer buffer, or a state, is too short; nothing was written */
 };
 
@@ -81,6 +83,7 @@ enum {
 enum {
 	PAJURENDA_MOST_IMAGE = 16777216, /* the longest image */
 	PAJURENDA_MOST_SHEET = 65535,    /* the longest sheet */
+	PAJURENDA_MOST_HEX = 46141468,   /* the longest Intel HEX text */
 	PAJURENDA_EMPTY_SHEET = 16,      /* the sheet without entries, and what stands before them */
 	PAJURENDA_ENTRY_BYTES = 8,       /* an entry of a sheet: offset (4), length (2), body (2) */
 	PAJURENDA_RANGE_BYTES = 8,       /* a range of an owner list: offset (4), length (2), owner (2) */
@@ -204,6 +207,21 @@ enum {
 	PAJURENDA_HANDOFFS_BYTES = 24
 };
 
+/* The answer of pajurenda_hex_export; where refused, the length is 0. */
+enum {
+	PAJURENDA_EXPORT_NUMBER = 0,
+	PAJURENDA_EXPORT_LENGTH = 8, /* how many characters the text has */
+	PAJURENDA_EXPORT_BYTES = 16
+};
+
+/* The answer of pajurenda_hex_import; where refused, zeros after the number. */
+enum {
+	PAJURENDA_IMPORT_NUMBER = 0,
+	PAJURENDA_IMPORT_BASE = 8,    /* the address of the first byte */
+	PAJURENDA_IMPORT_LENGTH = 16, /* how many bytes the text has */
+	PAJURENDA_IMPORT_BYTES = 24
+};
+
 /* The station: how long its state is, the calls of a boot, and the notifications of the last. */
 enum {
 	PAJURENDA_STATION_BYTES = 8,
@@ -306,6 +324,27 @@ uint32_t pajurenda_station(uint8_t *state, size_t state_length, uint64_t call,
 
 /* The state of a station that was reset, whatever it was before: always 0, or PAJURENDA_SHORT. */
 uint32_t pajurenda_station_reset(uint8_t *state, size_t state_length);
+
+/*
+ * Writes bytes at a base as Intel HEX, for a flash programmer; 1, 18, then 53. A record carries 16 bytes,
+ * the last one what is left; one with the upper 16 bits of the address opens the text and stands before
+ * the data of every further 64 KiB; digits are capitals, lines end in a line feed alone, and after the
+ * end record nothing follows, not a zero byte either. The bytes need not be an image that reads, only as long as
+ * one may be. The text's length is judged before the first character is written, and what the buffer
+ * holds after the text is kept; a buffer of PAJURENDA_MOST_HEX bytes is never too short.
+ */
+uint32_t pajurenda_hex_export(const uint8_t *bytes, size_t length, uint64_t base,
+			      uint8_t *text, size_t text_length,
+			      uint8_t *answer, size_t answer_length);
+
+/*
+ * The bytes and the base of a text that pajurenda_hex_export writes, and of no other: 50, then 53. The
+ * whole text is judged before the first byte is written, and what the buffer holds after the bytes is
+ * kept; a buffer of PAJURENDA_MOST_IMAGE bytes is never too short.
+ */
+uint32_t pajurenda_hex_import(const uint8_t *text, size_t text_length,
+			      uint8_t *bytes, size_t length,
+			      uint8_t *answer, size_t answer_length);
 
 /* ---- for the caller's ease: nothing below judges an image or a list ---- */
 
@@ -550,6 +589,8 @@ static inline const char *pajurenda_name(uint32_t number)
 	case PAJURENDA_KIND: return "KIND";
 	case PAJURENDA_ORDER: return "ORDER";
 	case PAJURENDA_UNKNOWN: return "UNKNOWN";
+	case PAJURENDA_TEXT: return "TEXT";
+	case PAJURENDA_SPACE: return "SPACE";
 	case PAJURENDA_SHORT: return "SHORT";
 	default: return "unknown";
 	}
@@ -655,6 +696,10 @@ static inline const char *pajurenda_sentence(uint32_t number)
 	case PAJURENDA_UNKNOWN:
 		return "a call must be TempRamInit, MemoryInit, TempRamExit, SiliconInit or NotifyPhase (1 "
 		       "to 5), a notification 0x20, 0x40 or 0xF0";
+	case PAJURENDA_TEXT:
+		return "the text must be, character for character, what an export writes of 72 to 16777216 "
+		       "bytes at a legal base";
+	case PAJURENDA_SPACE: return "the output must have room for all that is written";
 	case PAJURENDA_SHORT:
 		return "the buffer of an answer, or of a station's state, must have room for it";
 	default: return "unknown";

@@ -18,16 +18,16 @@ offers() {
 	count=$((count + 1))
 }
 
-offers 'audit|handoff|help|must|owners|read|release|setting|sheet|station|verify' ''
+offers 'audit|handoff|help|hex|must|owners|read|release|setting|sheet|station|verify' ''
 offers 'audit' a
 offers 'read|release' r
 offers 'setting|sheet|station' s
 offers '--help|--version' -
 offers '--version' --v
-offers 'audit|handoff|must|owners|read|release|setting|sheet|station|verify' help ''
+offers 'audit|handoff|hex|must|owners|read|release|setting|sheet|station|verify' help ''
 offers '' help sheet ''
 offers '' help owners ''
-offers 'handoff|help' h
+offers 'handoff|help|hex' h
 offers '' help read ''
 offers '--help|--json|--modules|--words' read -
 offers '--bytes|--help|--json|--list|--must|--names|--names-strict|--ranges|--report|--reports|--text' audit -
@@ -50,7 +50,19 @@ offers 'a b|image' verify image image image image ''
 offers 'a b|image' verify --text --report ''
 offers 'verify' v
 offers '--help|--json' handoff -
-offers '--help|--owner|--owners' release -
+offers '--help|--hex|--owner|--owners' release -
+offers 'a b|image' release --hex ''
+offers 'keep' release --hex image image image ''
+offers 'export|import' hex ''
+offers '--base|--help|--json' hex export -
+offers 'keep' hex export --base ''
+offers 'a b|image' hex export --base 0x0 ''
+offers 'a b|image' hex export image ''
+offers '' hex export image image ''
+offers '--help|--json' hex import -
+offers 'a b|image' hex import ''
+offers '' hex import image image ''
+offers '' hex nonsense ''
 offers '--help' sheet -
 offers '--help|--names|--names-strict' sheet make -
 offers '--help|--names|--names-strict' sheet start -

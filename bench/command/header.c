@@ -73,6 +73,21 @@ static void try_station(void)
 	check(PAJURENDA_STATION_BYTES == 8, "the length of a state");
 }
 
+/* 50 and 53, and the answers of the Intel HEX calls. */
+static void try_hex(void)
+{
+	static const uint32_t numbers[] = { 50, 53 };
+	check(strcmp(pajurenda_name(50), "TEXT") == 0 && strcmp(pajurenda_name(53), "SPACE") == 0, "the names of 50 and 53");
+	for (size_t i = 0; i < 2; i++) {
+		check(strlen(pajurenda_sentence(numbers[i])) > 10 && !pajurenda_has_index(numbers[i]), "50 and 53");
+		for (uint32_t j = 0; j < numbers[i]; j++)
+			check(strcmp(pajurenda_sentence(numbers[i]), pajurenda_sentence(j)) != 0, "two sentences alike");
+	}
+	check(PAJURENDA_EXPORT_LENGTH + 8 == PAJURENDA_EXPORT_BYTES, "the length of an export's answer");
+	check(PAJURENDA_IMPORT_LENGTH + 8 == PAJURENDA_IMPORT_BYTES, "the length of an import's answer");
+	check(PAJURENDA_MOST_HEX == 12 * 1048576 + 2 * 16777216 + 16 * 257 + 12, "the longest text");
+}
+
 /* Each number has its name and a sentence that no other has. */
 static void try_numbers(void)
 {
@@ -87,7 +102,7 @@ static void try_numbers(void)
 	}
 	check(strcmp(pajurenda_name(PAJURENDA_SHORT), "SHORT") == 0, "the name of 100");
 	check(strcmp(pajurenda_sentence(PAJURENDA_SHORT), "unknown") != 0, "the sentence of 100");
-	static const uint32_t others[] = { 21, 28, 29, 34, 39, 42, 99, 101, 65536, 65537, 4294967295u };
+	static const uint32_t others[] = { 21, 28, 29, 34, 39, 42, 49, 51, 52, 54, 99, 101, 65536, 65537, 4294967295u };
 	for (size_t i = 0; i < sizeof others / sizeof others[0]; i++) {
 		check(strcmp(pajurenda_name(others[i]), "unknown") == 0, "a name of no answer");
 		check(strcmp(pajurenda_sentence(others[i]), "unknown") == 0, "a sentence of no answer");
@@ -231,6 +246,7 @@ int main(void)
 	try_numbers();
 	try_handoff();
 	try_station();
+	try_hex();
 	try_fields();
 	try_image_version();
 	try_sheets();

@@ -4,6 +4,7 @@
 #include <stdlib.h>
 
 #include "../second/handoff.h"
+#include "../second/hex.h"
 #include "../second/second.h"
 #include "../second/station.h"
 
@@ -116,6 +117,32 @@ uint32_t pajurenda_handoffs(const uint8_t *buffer, size_t length,
 		return PAJURENDA_SHORT;
 	const struct second_list r = second_handoffs(buffer, length);
 	const uint64_t fields[] = { r.number, r.place, r.count };
+	put_fields(answer, fields, FIELDS(fields));
+	return (uint32_t)r.number;
+}
+
+/* Bytes as a text. */
+uint32_t pajurenda_hex_export(const uint8_t *bytes, size_t length, uint64_t base,
+			      uint8_t *text, size_t text_length,
+			      uint8_t *answer, size_t answer_length)
+{
+	if (answer_length < PAJURENDA_EXPORT_BYTES)
+		return PAJURENDA_SHORT;
+	const struct second_exported r = second_export(bytes, length, base, text, text_length);
+	const uint64_t fields[] = { r.number, r.length };
+	put_fields(answer, fields, FIELDS(fields));
+	return (uint32_t)r.number;
+}
+
+/* A text as bytes. */
+uint32_t pajurenda_hex_import(const uint8_t *text, size_t text_length,
+			      uint8_t *bytes, size_t length,
+			      uint8_t *answer, size_t answer_length)
+{
+	if (answer_length < PAJURENDA_IMPORT_BYTES)
+		return PAJURENDA_SHORT;
+	const struct second_imported r = second_import(text, text_length, bytes, length);
+	const uint64_t fields[] = { r.number, r.base, r.length };
 	put_fields(answer, fields, FIELDS(fields));
 	return (uint32_t)r.number;
 }

@@ -7,9 +7,10 @@ afresh
 try 1 "$audit"
 prints "$work/sample"
 tells 'nothing is built here yet'
-wanted=$(eval "$(sed -n '/^stands_on() {/,/^}/p' "$root/tools/common")"; stands_on pajurenda | wc -l)
+wanted=$(eval "$(sed -n '/^stands_on() {/,/^}/p' "$root/tools/common")"; for crate in $c_crates; do stands_on "$crate"; done | wc -l)
+last=$(eval "$(sed -n '/^stands_on() {/,/^}/p' "$root/tools/common")"; stands_on pajurenda | wc -l)
 tells_lines "$wanted" ' left'
-tells "$((wanted - 1)) left"
+tells "$((last - 1)) left"
 tells ' 0 left'
 called 1
 nothing_about

@@ -1,0 +1,3 @@
+pub mod Import
+pub mod Found
+pub mod ImportLaws

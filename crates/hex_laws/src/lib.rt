@@ -1,0 +1,1 @@
+// Theorems alone: export and import undo each other.

@@ -1,0 +1,3 @@
+pub mod Decoded
+pub mod DecodedLaws
+pub mod Told
