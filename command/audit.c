@@ -4,6 +4,7 @@
 #include <inttypes.h>
 #include <stdio.h>
 
+#include "edition.h"
 #include "ranges.h"
 
 /* The name that has a setting's byte, where there are names. */
@@ -73,10 +74,12 @@ static void show_differences(const struct check *check, unsigned options)
 		show_list(check);
 }
 
-/* The whole output of an accepted audit. */
+/* The whole output of an accepted audit; that of edition 1 says first how it was compared. */
 enum status show_audit(const struct check *check, unsigned options)
 {
 	put_naming(stdout, "", &check->naming);
+	if (is_older(check->reading))
+		printf("edition 1 %s\n", byte_for_byte);
 	printf("base 0x%08" PRIX64 "\n", count_of(check, PAJURENDA_AUDIT_BASE));
 	printf("settings %" PRIu64 "\n", count_of(check, PAJURENDA_AUDIT_SETTINGS));
 	printf("strays %" PRIu64 "\n", count_of(check, PAJURENDA_AUDIT_STRAYS));
@@ -84,7 +87,7 @@ enum status show_audit(const struct check *check, unsigned options)
 	show_differences(check, options);
 	show_must(&check->must);
 	show_verdict(check);
-	if (is_unchecked(check))
-		printf("not checked %s\n", not_checked);
+	if (left_open(check) != NULL)
+		printf("not checked %s\n", left_open(check));
 	return status_of(check);
 }

@@ -4,6 +4,7 @@
 #include <inttypes.h>
 #include <stdio.h>
 
+#include "edition.h"
 #include "json.h"
 #include "json_names.h"
 #include "letters.h"
@@ -162,9 +163,13 @@ static void write_must(const struct must *must)
 static void write_found(const struct check *check)
 {
 	json_naming(&check->naming);
+	json_number("edition", pajurenda_edition(check->reading));
 	json_hex("base", 8, count_of(check, PAJURENDA_AUDIT_BASE));
-	printf(",\n  \"move\": %" PRId64,
-	       pajurenda_signed_field(check->moved, PAJURENDA_RELEASE_MOVE));
+	if (is_older(check->reading))
+		json_text("move", NULL);
+	else
+		printf(",\n  \"move\": %" PRId64,
+		       pajurenda_signed_field(check->moved, PAJURENDA_RELEASE_MOVE));
 	json_number("settings", count_of(check, PAJURENDA_AUDIT_SETTINGS));
 	json_number("strays", count_of(check, PAJURENDA_AUDIT_STRAYS));
 	json_number("bits", count_of(check, PAJURENDA_AUDIT_BITS));
@@ -189,7 +194,7 @@ enum status write_check(const struct check *check)
 	else
 		write_found(check);
 	json_text("required", required_of(check));
-	json_text("not_checked", is_unchecked(check) ? not_checked : NULL);
+	json_text("not_checked", left_open(check));
 	json_text("verdict", verdict_of(check));
 	end_json();
 	return status_of(check);

@@ -4,6 +4,7 @@
 #include <errno.h>
 #include <stdlib.h>
 
+#include "edition.h"
 #include "files.h"
 #include "messages.h"
 #include "numbers.h"
@@ -160,11 +161,13 @@ static enum status move_reference(struct check *check, uint64_t base)
 	return move_alone(&check->reference, base, check->moved) ? FINE : fail_answer();
 }
 
-/* audit: the vendor's image moved. */
+/* audit: the vendor's image moved; one of edition 1 stays where it is. */
 static enum status judge_audit(struct check *check)
 {
 	if (audit_against(check, &check->vendor.bytes, &check->found) != FINE)
 		return FAILED;
+	if (is_older(check->reading))
+		return FINE;
 	return move_reference(check, pajurenda_field(check->found.answer, PAJURENDA_AUDIT_BASE));
 }
 
@@ -220,15 +223,33 @@ static bool load_beside(struct check *check)
 			 &check->must);
 }
 
+/* The vendor's image read for what is asked: sheets, names and what must be are about settings. */
+static uint32_t read_vendor(struct check *check)
+{
+	const struct bytes *vendor = &check->vendor.bytes;
+	if (check->verify || check->options->names != NULL || check->options->must != NULL)
+		return read_newer(vendor, check->reading);
+	return pajurenda_read(vendor->at, vendor->length, check->reading, sizeof check->reading);
+}
+
+/* What is inside the vendor's image, its words by position; of edition 1 nothing is known. */
+static enum status find_inside(struct check *check)
+{
+	const struct bytes *vendor = &check->vendor.bytes;
+	check->contents.image = vendor;
+	if (is_older(check->reading))
+		return FINE;
+	return load_contents(vendor, &check->contents) == FINE ? sort_words(&check->contents) : FAILED;
+}
+
 /* The library's answer on all of it; FAILED after a refusal, which is noted, or an error. */
 enum status judge(struct check *check)
 {
 	const struct bytes *vendor = &check->vendor.bytes;
-	const uint32_t own =
-		pajurenda_read(vendor->at, vendor->length, check->reading, sizeof check->reading);
+	const uint32_t own = read_vendor(check);
 	if (own != PAJURENDA_ACCEPTED)
 		return refuse_check(check, own, &check->vendor);
-	if (load_contents(vendor, &check->contents) != FINE || sort_words(&check->contents) != FINE)
+	if (find_inside(check) != FINE)
 		return FAILED;
 	if (!copy_bytes(vendor, &check->reference))
 		return fail_no_memory(check->vendor.name);
@@ -271,6 +292,14 @@ bool is_unchecked(const struct check *check)
 const char not_checked[] = "whether the settings are the wanted ones; verify VENDOR SHEET.. SHIPPED says it by "
 			   "the sheets, --must FILE by a text";
 
+/* What such a check leaves open; NULL where it leaves nothing. */
+const char *left_open(const struct check *check)
+{
+	if (!is_unchecked(check))
+		return NULL;
+	return is_older(check->reading) ? older_not_checked : not_checked;
+}
+
 /* The status of a check that was judged. */
 enum status status_of(const struct check *check)
 {
@@ -285,6 +314,14 @@ const char *required_of(const struct check *check)
 	if (check->must.file.name == NULL || check->number != PAJURENDA_ACCEPTED)
 		return NULL;
 	return is_held(&check->must) ? "as required" : "not as required";
+}
+
+/* What the file was held against. */
+const char *reference_name(const struct check *check)
+{
+	if (check->verify)
+		return "the release";
+	return is_older(check->reading) ? "the maker's image" : "the maker's image moved";
 }
 
 /* The verdict in words. */

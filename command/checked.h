@@ -50,7 +50,9 @@ bool is_unchecked(const struct check *check);
 enum status status_of(const struct check *check);
 uint64_t count_of(const struct check *check, size_t field);
 const char *verdict_of(const struct check *check);
+const char *reference_name(const struct check *check);
 const char *required_of(const struct check *check);
+const char *left_open(const struct check *check);
 extern const char not_checked[]; /* and how to check it */
 void end_check(struct check *check);
 

@@ -184,14 +184,15 @@ static void show_general(void)
 	puts("help         shows this, or the help of one command (also: COMMAND --help)");
 	fputs(general_help, stdout);
 	show_refusals(PAJURENDA_LENGTH, PAJURENDA_ROOM);
-	show_refusals(PAJURENDA_RESERVED, PAJURENDA_RELOCATION);
+	show_refusals(PAJURENDA_RESERVED, PAJURENDA_READ_ONLY);
 	show_refusals(PAJURENDA_BLOCK, PAJURENDA_KIND);
 	show_refusals(PAJURENDA_ORDER, PAJURENDA_UNKNOWN);
 	show_refusal(PAJURENDA_TEXT);
 	show_refusal(PAJURENDA_SPACE);
-	puts("\nAn image is judged in the order 1 to 12, 22, 13, 14, 25, 26, 27, a release then 15, 23,\n"
+	puts("\nAn image is judged in the order 1 to 12, 22, 13, 14, 25, 26, 27, a release then 28, 15, 23,\n"
 	     "16, 17, 24, 18, an export 1, 18; the first that applies is told. The lists and outputs\n"
-	     "here are as long as they must be, so 20 and 53 are for other callers.");
+	     "here are as long as they must be, so 20 and 53 are for other callers. Of an edition 1\n"
+	     "image (header revision 1) 1 to 6 and 8 are judged; read and audit take it, byte for byte.");
 }
 
 /* The help on one subcommand, or on all where it is NULL. */

@@ -12,6 +12,10 @@ const char read_help[] =
 	"the extended number's two as upper halves of revision and build. Below header revision\n"
 	"6 there is no extended number, and it is shown as 0x0000.\n"
 	"\n"
+	"An image of edition 1 (header revision 1, of older boards) has `edition 1` in the component's\n"
+	"place and a version major.minor; nothing else of it is judged, so that no entry, region, module\n"
+	"or word is shown, and with --modules or --words it is refused with 28.\n"
+	"\n"
 	"--modules  also lists the modules in file order, a line each: its number, the name of its\n"
 	"           file, the position of its section's header, its kind (PE32, PE32+ or TE), its own\n"
 	"           position and length, its image base and how many relocation words it has.\n"
@@ -152,7 +156,12 @@ const char audit_help[] =
 	"          header`, or `elsewhere`; then ` in module N` and the name of its file where a\n"
 	"          module has them, which of its other bytes is all. `read --modules` on VENDOR\n"
 	"          lists the modules, `read --words` the words.\n"
-	"--json    one JSON document in place of the lines.\n";
+	"--json    one JSON document in place of the lines.\n"
+	"\n"
+	"A VENDOR of edition 1 (header revision 1) isn't moved: it is compared byte for byte, which the\n"
+	"first line says, and every difference is a stray. Settings can't be told apart there, so that with\n"
+	"--names or --must such an image is refused with 28, as verify, release, setting, sheet, must and\n"
+	"owners refuse it.\n";
 
 const char verify_help[] =
 	"Says whether SHIPPED is, byte for byte, what releasing VENDOR with these sheets, in this\n"

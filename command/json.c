@@ -56,8 +56,8 @@ void json_bytes(const uint8_t *bytes, uint64_t count)
 	putchar('"');
 }
 
-/* What an image is by, or a sheet is for. */
-void json_parts(const uint8_t *identity, uint64_t revision, uint64_t extended)
+/* What an image is by, or a sheet is for, without the version that this makes. */
+void json_bound(const uint8_t *identity, uint64_t revision, uint64_t extended)
 {
 	char text[9] = "";
 	for (size_t i = 0; i < 8; i++)
@@ -67,6 +67,12 @@ void json_parts(const uint8_t *identity, uint64_t revision, uint64_t extended)
 	json_text("identity_text", is_printable(identity, 8) ? text : NULL);
 	json_hex("revision", 8, revision);
 	json_hex("extended", 4, extended);
+}
+
+/* The same with the version. */
+void json_parts(const uint8_t *identity, uint64_t revision, uint64_t extended)
+{
+	json_bound(identity, revision, extended);
 	fputs(",\n  \"version\": \"", stdout);
 	show_image_version(stdout, revision, extended);
 	putchar('"');

@@ -12,6 +12,7 @@ void json_text(const char *name, const char *text);
 void json_number(const char *name, uint64_t value);
 void json_hex(const char *name, unsigned digits, uint64_t value);
 void json_answer(uint32_t number, uint64_t index);
+void json_bound(const uint8_t *identity, uint64_t revision, uint64_t extended);
 void json_parts(const uint8_t *identity, uint64_t revision, uint64_t extended);
 void json_bytes(const uint8_t *bytes, uint64_t count);
 

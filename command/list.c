@@ -15,6 +15,7 @@
 #include <unistd.h>
 
 #include "checking.h"
+#include "edition.h"
 #include "messages.h"
 #include "page.h"
 #include "text.h"
@@ -139,6 +140,8 @@ static void show_outcome(const struct check *check)
 	       count_of(check, PAJURENDA_AUDIT_BASE),
 	       count_of(check, PAJURENDA_AUDIT_SETTINGS), count_of(check, PAJURENDA_AUDIT_STRAYS),
 	       count_of(check, PAJURENDA_AUDIT_BITS));
+	if (is_older(check->reading))
+		fputs(" edition 1", stdout);
 }
 
 /* The outcome counted; the worst one is the whole tour's. */

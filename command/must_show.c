@@ -3,6 +3,7 @@
 #include <stdio.h>
 #include <stdlib.h>
 
+#include "edition.h"
 #include "files.h"
 #include "messages.h"
 #include "must.h"
@@ -61,8 +62,7 @@ static enum status explain(const char *file, const struct named *image, const st
 	struct naming naming = { .file = { .name = NULL } };
 	struct must must = { .file = { .name = NULL } };
 	enum status status = FAILED;
-	const uint32_t number =
-		pajurenda_read(image->bytes.at, image->bytes.length, reading, sizeof reading);
+	const uint32_t number = read_newer(&image->bytes, reading);
 	if (number != PAJURENDA_ACCEPTED)
 		return refuse_image(number, pajurenda_field(reading, PAJURENDA_READ_INDEX), image);
 	if (load_naming(options, image, reading, &naming) &&

@@ -2,6 +2,7 @@
 #include <inttypes.h>
 
 #include "digest.h"
+#include "edition.h"
 #include "page.h"
 #include "show.h"
 #include "signs.h"
@@ -11,13 +12,25 @@
 
 /* ---- the verdict ---- */
 
+/* The same of an edition 1 image. */
+static void say_older(FILE *to, uint64_t strays)
+{
+	if (strays == 0)
+		fputs("Byte for byte, the shipped file is the maker's image: no byte differs.", to);
+	else
+		put_plural(to, strays, "byte differs.", "bytes differ.");
+	fprintf(to, " An edition 1 image is compared %s.", byte_for_byte);
+}
+
 /* The verdict's sentence of an audit. */
 static void say_audit(const struct page *page)
 {
 	const uint64_t settings = count_of(page->check, PAJURENDA_AUDIT_SETTINGS);
 	const uint64_t strays = count_of(page->check, PAJURENDA_AUDIT_STRAYS);
 	FILE *to = page->to;
-	if (strays != 0) {
+	if (is_older(page->check->reading)) {
+		say_older(to, strays);
+	} else if (strays != 0) {
 		put_plural(to, strays, "byte differs", "bytes differ");
 		fputs(" outside the settings, and neither the move nor a setting accounts for ", to);
 		fputs(strays == 1 ? "it." : "them.", to);
@@ -88,9 +101,9 @@ static void say_required(const struct page *page)
 void put_verdict(const struct page *page, const struct tally *tally)
 {
 	const bool refused = page->check->number != PAJURENDA_ACCEPTED;
-	const bool unchecked = is_unchecked(page->check);
+	const char *unchecked = left_open(page->check);
 	fprintf(page->to, "<section class=\"verdict %s\">\n<p class=\"word\">",
-		unchecked ? "open" : is_fine(page->check) ? "good" : "bad");
+		unchecked != NULL ? "open" : is_fine(page->check) ? "good" : "bad");
 	put_verdict_words(page);
 	fputs("</p>\n<p>", page->to);
 	if (refused)
@@ -102,8 +115,8 @@ void put_verdict(const struct page *page, const struct tally *tally)
 	fputs("</p>\n", page->to);
 	if (!refused)
 		say_required(page);
-	if (unchecked)
-		fprintf(page->to, "<p class=\"unchecked\">Not checked: %s.</p>\n", not_checked);
+	if (unchecked != NULL)
+		fprintf(page->to, "<p class=\"unchecked\">Not checked: %s.</p>\n", unchecked);
 	fputs("</section>\n", page->to);
 }
 
@@ -204,20 +217,33 @@ static void put_image(FILE *to, const uint8_t *reading, const struct contents *c
 	const uint64_t component = pajurenda_field(reading, PAJURENDA_READ_COMPONENT);
 	const uint64_t revision = pajurenda_field(reading, PAJURENDA_READ_REVISION);
 	const uint64_t extended = pajurenda_field(reading, PAJURENDA_READ_EXTENDED);
-	put_fact(to, "Component", names[component <= 4 ? component : 0]);
+	if (is_older(reading))
+		put_fact(to, "Edition", "1");
+	else
+		put_fact(to, "Component", names[component <= 4 ? component : 0]);
 	put_identity(to, pajurenda_identity(reading));
 	put_number(to, "Revision", "0x%08" PRIX64, revision);
 	put_number(to, "Extended number", "0x%04" PRIX64, extended);
 	fputs("<div><dt>Version</dt><dd>", to);
-	show_image_version(to, revision, extended);
+	show_version_of(to, reading);
 	fputs("</dd></div>\n", to);
 	put_number(to, "Base", "0x%08" PRIX64, pajurenda_field(reading, PAJURENDA_READ_BASE));
 	put_number(to, "FSP header at", "%" PRIu64, pajurenda_field(reading, PAJURENDA_READ_HEADER));
+	if (is_older(reading))
+		return;
 	put_number(to, "Patch entries", "%" PRIu64, pajurenda_field(reading, PAJURENDA_READ_COUNT));
 	put_number(to, "Region at", "%" PRIu64, pajurenda_field(reading, PAJURENDA_READ_REGION));
 	put_number(to, "Region's bytes", "%" PRIu64, pajurenda_field(reading, PAJURENDA_READ_SIZE));
 	put_number(to, "Modules", "%" PRIu64, count_modules(contents));
 	put_number(to, "Words that a move changes", "%" PRIu64, count_moved(contents));
+}
+
+/* The count of an edition 1 image's differences, and what it counts. */
+static void put_older_facts(const struct page *page)
+{
+	put_number(page->to, "Stray bytes", "%" PRIu64, count_of(page->check, PAJURENDA_AUDIT_STRAYS));
+	fputs("</dl>\n<p class=\"note\">An edition 1 image isn't moved, so that every byte that differs is a "
+	      "stray, those of the base word too.</p>\n</section>\n", page->to);
 }
 
 /* Where it was moved, and the counts. */
@@ -230,8 +256,12 @@ void put_facts(const struct page *page)
 	fputs("<section>\n<h2>What the maker's image says of itself</h2>\n<dl>\n", page->to);
 	put_image(page->to, check->reading, &check->contents);
 	fprintf(page->to, "</dl>\n</section>\n<section>\n<h2>The shipped file, against %s</h2>\n<dl>\n",
-		check->verify ? "the release" : "the maker's image moved");
+		reference_name(check));
 	put_number(page->to, "Base", "0x%08" PRIX64, count_of(check, PAJURENDA_AUDIT_BASE));
+	if (is_older(check->reading)) {
+		put_older_facts(page);
+		return;
+	}
 	put_fact(page->to, "Move", move);
 	put_number(page->to, "Setting bytes that differ", "%" PRIu64,
 		   count_of(check, PAJURENDA_AUDIT_SETTINGS));
@@ -279,6 +309,8 @@ static void put_first_words(const struct page *page, const struct contents *cont
 void put_words(const struct page *page)
 {
 	const struct contents *contents = &page->check->contents;
+	if (count_moved(contents) == 0)
+		return;
 	fputs("<section>\n<h2>Words that the move changes</h2>\n<table class=\"words\">\n<thead><tr>"
 	      "<th>Word</th><th class=\"number\">At</th><th>Maker's</th><th>Should be</th><th>Is</th>"
 	      "</tr></thead>\n<tbody>\n", page->to);

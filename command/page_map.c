@@ -4,6 +4,7 @@
  */
 #include <inttypes.h>
 
+#include "edition.h"
 #include "letters.h"
 #include "page.h"
 
@@ -66,9 +67,10 @@ static struct parts parts_of(const struct bytes *image, const uint8_t *reading)
 	add_part(&parts, "p-volume", "Volume header", 0, w.h);
 	add_part(&parts, "p-volume", "Volume's extended header", w.x, w.x == 0 ? 0 : w.e);
 	add_part(&parts, "p-file", "Header file", w.f, w.s);
-	add_part(&parts, "p-tables", "FSP header and tables", header,
-		 pajurenda_field(reading, PAJURENDA_READ_END) - header);
-	add_part(&parts, "p-region", "Configuration region", region, size);
+	add_part(&parts, "p-tables", is_older(reading) ? "FSP header" : "FSP header and tables", header,
+		 header_end(image, reading) - header);
+	if (!is_older(reading))
+		add_part(&parts, "p-region", "Configuration region", region, size);
 	add_part(&parts, "p-free", "Free end (all FF)", w.V - free_end, free_end);
 	add_part(&parts, "p-after", "After the volume", w.V, image->length - w.V);
 	return parts;
@@ -191,7 +193,7 @@ static void put_kinds(FILE *to, struct ranges *ranges, uint64_t start, uint64_t 
 	if (ranges->check->verify) {
 		put_differences(to, ranges, SHEET_SETTING, start, length);
 		put_differences(to, ranges, OTHER_SETTING, start, length);
-	} else {
+	} else if (!is_older(ranges->check->reading)) {
 		put_differences(to, ranges, ANY_SETTING, start, length);
 	}
 	put_differences(to, ranges, ANY_STRAY, start, length);
@@ -292,12 +294,14 @@ void put_maps(const struct page *page)
 	put_parts(page->to, &parts, image->length);
 	if (count_modules(contents) > 0)
 		put_modules(page->to, contents, image->length);
-	put_moved(page->to, contents, image->length);
+	if (count_moved(contents) > 0)
+		put_moved(page->to, contents, image->length);
 	put_kinds(page->to, &ranges, 0, image->length);
 	put_scale(page->to, 0, image->length);
 	put_legend(page->to, &parts);
 	fputs("</div>\n", page->to);
-	put_region(page->to, &ranges);
+	if (!is_older(page->check->reading))
+		put_region(page->to, &ranges);
 	fputs("<p class=\"note\">Drawn to scale by position, in bytes; a mark is never thinner than can be "
 	      "seen, and marks that would touch are one.</p>\n</section>\n", page->to);
 }

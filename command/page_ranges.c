@@ -1,6 +1,7 @@
 /* The page's table of ranges: both bytes of each, a long list cut with its count. */
 #include <inttypes.h>
 
+#include "edition.h"
 #include "page.h"
 #include "signs.h"
 
@@ -85,8 +86,7 @@ void put_ranges(const struct page *page, const struct tally *tally)
 {
 	struct ranges ranges;
 	FILE *to = page->to;
-	fprintf(to, "<section>\n<h2>Differences from %s</h2>\n",
-		page->check->verify ? "the release" : "the maker's image moved");
+	fprintf(to, "<section>\n<h2>Differences from %s</h2>\n", reference_name(page->check));
 	if (tally->ranges == 0) {
 		fputs("<p>None.</p>\n</section>\n", to);
 		return;
@@ -95,7 +95,7 @@ void put_ranges(const struct page *page, const struct tally *tally)
 	fprintf(to, "<table class=\"ranges %s\">\n<thead><tr><th>Kind</th><th>Position</th>"
 		"<th class=\"number\">Bytes</th><th>Where</th><th>%s</th><th>Is</th>%s"
 		"</tr></thead>\n<tbody>\n", page->check->verify ? "verified" : "audited",
-		page->check->verify ? "Should be" : "Maker's, moved",
+		page->check->verify ? "Should be" : is_older(page->check->reading) ? "Maker's" : "Maker's, moved",
 		page->check->verify ? "<th>Set by</th>" : "");
 	const uint64_t bytes = put_rows(page, &ranges);
 	fputs("</tbody>\n</table>\n", to);

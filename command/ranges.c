@@ -8,21 +8,30 @@
 #include <inttypes.h>
 #include <stdio.h>
 
+#include "edition.h"
 #include "letters.h"
 #include "messages.h"
 #include "show.h"
 
 /* ---- where a position lies ---- */
 
-/* The rooms of an image, from its start. */
+/* The rooms of an image, from its start; one of edition 1 has no region that was judged. */
 static struct map map_rooms(const struct check *check)
 {
+	const uint8_t *reading = check->reading;
 	return (struct map){
 		.contents = &check->contents,
-		.header = pajurenda_field(check->reading, PAJURENDA_READ_HEADER),
-		.end = pajurenda_field(check->reading, PAJURENDA_READ_END),
-		.region = pajurenda_field(check->reading, PAJURENDA_READ_REGION),
+		.older = is_older(reading),
+		.header = pajurenda_field(reading, PAJURENDA_READ_HEADER),
+		.end = header_end(&check->vendor.bytes, reading),
+		.region = is_older(reading) ? NO_REGION : pajurenda_field(reading, PAJURENDA_READ_REGION),
 	};
+}
+
+/* The base word of an edition 1 image, whose words are in no list. */
+static bool is_older_base(const struct map *map, uint64_t at)
+{
+	return map->older && at >= map->header + 28 && at < map->header + 32;
 }
 
 /* The module that holds a position, positions coming in order: its section, with the header. */
@@ -56,9 +65,11 @@ static struct lying find_room(struct map *map, uint64_t at)
 	if (find_word(map, at, &word)) {
 		lying.room = word.room;
 		lying.index = word.index;
+	} else if (is_older_base(map, at)) {
+		lying.room = BASE_WORD;
 	} else if (at >= map->header && at < map->end) {
-		lying.room = TABLES;
-	} else if (at >= map->region && at < map->region + 32) {
+		lying.room = map->older ? FSP_HEADER : TABLES;
+	} else if (at >= map->region && at - map->region < 32) {
 		lying.room = REGION_HEADER;
 	} else if (lying.module != NO_MODULE) {
 		lying.room = MODULE_BYTES;
@@ -142,7 +153,7 @@ const char *name_room(enum room room)
 		[IMAGE_BASE] = "image base",       [RELOCATION_WORD] = "relocation word",
 		[TABLES] = "tables",               [REGION_HEADER] = "region header",
 		[SETTINGS] = "region offset",      [MODULE_BYTES] = "module",
-		[ELSEWHERE] = "elsewhere",
+		[ELSEWHERE] = "elsewhere",         [FSP_HEADER] = "FSP header",
 	};
 	return names[room];
 }

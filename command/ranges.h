@@ -14,9 +14,13 @@ struct lying {
 	uint64_t module;
 };
 
+/* The region of an image that has none: no position lies there. */
+#define NO_REGION UINT64_MAX
+
 /* The vendor image's rooms; its words and modules in order of position, of which some are passed. */
 struct map {
 	const struct contents *contents;
+	bool older; /* of edition 1 */
 	uint64_t header, end, region;
 	uint64_t words, modules;
 };

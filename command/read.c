@@ -3,6 +3,7 @@
 #include <stdio.h>
 #include <stdlib.h>
 
+#include "edition.h"
 #include "files.h"
 #include "inside.h"
 #include "json.h"
@@ -26,21 +27,32 @@ static void show_parts(const uint8_t *answer)
 	show_identity(stdout, pajurenda_identity(answer));
 	printf("\nrevision 0x%08" PRIX64 "\nextended 0x%04" PRIX64 "\n", revision, extended);
 	fputs("version ", stdout);
-	show_image_version(stdout, revision, extended);
+	show_version_of(stdout, answer);
 	putchar('\n');
 }
 
-/* The facts of an accepted reading. */
-static void show_reading(const struct bytes *image, const uint8_t *answer)
+/* The letter of the component, or that there is none. */
+static void show_kind(const uint8_t *answer)
 {
 	static const char letter[] = "?TMSI";
 	const uint64_t component = pajurenda_field(answer, PAJURENDA_READ_COMPONENT);
 
+	if (is_older(answer))
+		puts("edition 1");
+	else
+		printf("component %c\n", letter[component <= 4 ? component : 0]);
+}
+
+/* The facts of an accepted reading; of edition 1 those that were judged. */
+static void show_reading(const struct bytes *image, const uint8_t *answer)
+{
 	printf("length %zu\n", image->length);
-	printf("component %c\n", letter[component <= 4 ? component : 0]);
+	show_kind(answer);
 	show_parts(answer);
 	printf("base 0x%08" PRIX64 "\n", pajurenda_field(answer, PAJURENDA_READ_BASE));
 	show_field("header", answer, PAJURENDA_READ_HEADER);
+	if (is_older(answer))
+		return;
 	show_field("patches", answer, PAJURENDA_READ_COUNT);
 	show_field("end", answer, PAJURENDA_READ_END);
 	printf("region c %" PRIu64 " z %" PRIu64 "\n", pajurenda_field(answer, PAJURENDA_READ_REGION),
@@ -51,6 +63,8 @@ static void show_reading(const struct bytes *image, const uint8_t *answer)
 static void show_image(const struct contents *contents, const uint8_t *answer, unsigned options)
 {
 	show_reading(contents->image, answer);
+	if (is_older(answer))
+		return;
 	show_counts(contents, answer);
 	if ((options & MODULES) != 0)
 		show_modules(contents);
@@ -60,17 +74,33 @@ static void show_image(const struct contents *contents, const uint8_t *answer, u
 
 /* ---- for a program ---- */
 
+/* What an edition 1 image doesn't tell. */
+static void write_unjudged(void)
+{
+	static const char *const names[] = { "patches", "end", "region", "modules", "words", "relocation_words" };
+	for (size_t i = 0; i < sizeof names / sizeof names[0]; i++)
+		json_text(names[i], NULL);
+}
+
 /* The facts of an accepted reading. */
 static void write_reading(const struct bytes *image, const uint8_t *answer)
 {
 	static const char *const letters[] = { "?", "T", "M", "S", "I" };
 	const uint64_t component = pajurenda_field(answer, PAJURENDA_READ_COMPONENT);
 	json_number("length", image->length);
-	json_text("component", letters[component <= 4 ? component : 0]);
-	json_parts(pajurenda_identity(answer), pajurenda_field(answer, PAJURENDA_READ_REVISION),
+	json_number("edition", pajurenda_edition(answer));
+	json_text("component", is_older(answer) ? NULL : letters[component <= 4 ? component : 0]);
+	json_bound(pajurenda_identity(answer), pajurenda_field(answer, PAJURENDA_READ_REVISION),
 		   pajurenda_field(answer, PAJURENDA_READ_EXTENDED));
+	fputs(",\n  \"version\": \"", stdout);
+	show_version_of(stdout, answer);
+	putchar('"');
 	json_hex("base", 8, pajurenda_field(answer, PAJURENDA_READ_BASE));
 	json_number("header", pajurenda_field(answer, PAJURENDA_READ_HEADER));
+	if (is_older(answer)) {
+		write_unjudged();
+		return;
+	}
 	json_number("patches", pajurenda_field(answer, PAJURENDA_READ_COUNT));
 	json_number("end", pajurenda_field(answer, PAJURENDA_READ_END));
 	printf(",\n  \"region\": {\"place\": %" PRIu64 ", \"size\": %" PRIu64 "}",
@@ -89,25 +119,37 @@ static void write_inside(const struct contents *contents, const uint8_t *answer,
 }
 
 /* The whole document, of a refused image too. */
-static void write_image(const struct named *image, const struct contents *contents,
+static void write_image(const struct named *image, const struct contents *contents, uint32_t number,
 			const uint8_t *answer, unsigned options)
 {
-	const uint64_t number = pajurenda_field(answer, PAJURENDA_READ_NUMBER);
 	begin_json("read");
 	json_text("file", image->name);
-	json_answer((uint32_t)number, pajurenda_field(answer, PAJURENDA_READ_INDEX));
+	json_answer(number, pajurenda_field(answer, PAJURENDA_READ_INDEX));
 	if (number == PAJURENDA_ACCEPTED) {
 		write_reading(&image->bytes, answer);
-		write_inside(contents, answer, options);
+		if (!is_older(answer))
+			write_inside(contents, answer, options);
 	}
 	end_json();
 }
 
 /* ---- both ---- */
 
-/* The list where it is to be shown, else the counts alone. */
-static enum status find_contents(const struct bytes *image, struct contents *contents, unsigned options)
+/* The reading; modules and words are asked of edition 2 alone. */
+static uint32_t read_for(const struct bytes *image, uint8_t *answer, unsigned options)
 {
+	if ((options & (MODULES | WORDS)) != 0)
+		return read_newer(image, answer);
+	return pajurenda_read(image->at, image->length, answer, PAJURENDA_READ_BYTES);
+}
+
+/* The list where it is to be shown, else the counts alone; of edition 1 neither is there. */
+static enum status find_contents(const struct bytes *image, const uint8_t *answer,
+				 struct contents *contents, unsigned options)
+{
+	contents->image = image;
+	if (is_older(answer))
+		return FINE;
 	if ((options & (MODULES | WORDS)) != 0)
 		return load_contents(image, contents);
 	return count_contents(image, contents) ? FINE : fail_answer();
@@ -118,13 +160,12 @@ static enum status read_image(const struct named *image, struct contents *conten
 {
 	uint8_t answer[PAJURENDA_READ_BYTES] = { 0 };
 	const bool json = (options & JSON) != 0;
-	const uint32_t number =
-		pajurenda_read(image->bytes.at, image->bytes.length, answer, sizeof answer);
+	const uint32_t number = read_for(&image->bytes, answer, options);
 	keep_refusals(json);
-	if (number == PAJURENDA_ACCEPTED && find_contents(&image->bytes, contents, options) != FINE)
+	if (number == PAJURENDA_ACCEPTED && find_contents(&image->bytes, answer, contents, options) != FINE)
 		return FAILED;
 	if (json)
-		write_image(image, contents, answer, options);
+		write_image(image, contents, number, answer, options);
 	if (number != PAJURENDA_ACCEPTED)
 		return refuse_image(number, pajurenda_field(answer, PAJURENDA_READ_INDEX), image);
 	if (!json)

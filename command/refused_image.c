@@ -1,4 +1,4 @@
-/* Refusals 1 to 14, 22 and 25 to 27 in words: what stands in the image where the rule looks. */
+/* Refusals 1 to 14, 22 and 25 to 28 in words: what stands in the image where the rule looks. */
 #include <inttypes.h>
 #include <stdio.h>
 
@@ -66,13 +66,15 @@ static void say_file(const struct letters *w, uint64_t index)
 	say(", s", w->s);
 }
 
-/* 4: the section's type and size. */
+/* 4: the section's type and size, and the revision where it decides. */
 static void say_section(const struct letters *w, uint64_t index)
 {
 	(void)index;
 	fprintf(stderr, "type 0x%02" PRIX64, number_at(w->image, w->f + 27, 1));
 	say(", size", w->section);
 	say(", s", w->s);
+	if (w->section >= 64 && w->section < 76 && has_bytes(w->image, w->H + 11, 1))
+		say(", header revision", number_at(w->image, w->H + 11, 1));
 }
 
 /* 5: the header's mark, revision and length. */
@@ -239,7 +241,15 @@ static void say_relocation(const struct letters *w, uint64_t index)
 	say_module_values(w, PAJURENDA_RELOCATION);
 }
 
-/* The values of each of an image's own rules. */
+/* 28: what makes it edition 1. */
+static void say_read_only(const struct letters *w, uint64_t index)
+{
+	(void)index;
+	say("header revision", number_at(w->image, w->H + 11, 1));
+	say(", L", w->L);
+}
+
+/* The values of each of an image's own rules, and of 28. */
 static void (*const say_values[])(const struct letters *w, uint64_t index) = {
 	[PAJURENDA_LENGTH] = say_one,       [PAJURENDA_VOLUME] = say_volume,
 	[PAJURENDA_FILE] = say_file,        [PAJURENDA_SECTION] = say_section,
@@ -250,6 +260,7 @@ static void (*const say_values[])(const struct letters *w, uint64_t index) = {
 	[PAJURENDA_RESERVED] = say_reserved, [PAJURENDA_PLACE] = say_place,
 	[PAJURENDA_OVERLAP] = say_overlap,  [PAJURENDA_MODULE] = say_module,
 	[PAJURENDA_WORD] = say_word,        [PAJURENDA_RELOCATION] = say_relocation,
+	[PAJURENDA_READ_ONLY] = say_read_only,
 };
 
 #define NUMBERS (sizeof say_values / sizeof say_values[0])

@@ -1,6 +1,7 @@
 /* A release asked of the library, and its refusals: which file each is about, and its values. */
 #include "released.h"
 
+#include "edition.h"
 #include "letters.h"
 #include "messages.h"
 #include "pajurenda.h"
@@ -77,8 +78,7 @@ enum status refuse_release(uint32_t number, const struct asking *asking)
 {
 	const struct named *image = asking->image;
 	uint8_t reading[PAJURENDA_READ_BYTES] = { 0 };
-	const uint32_t own =
-		pajurenda_read(image->bytes.at, image->bytes.length, reading, sizeof reading);
+	const uint32_t own = read_newer(&image->bytes, reading);
 	return own == PAJURENDA_ACCEPTED
 		       ? refuse_asked(number, asking, reading)
 		       : refuse_image(own, pajurenda_field(reading, PAJURENDA_READ_INDEX), image);

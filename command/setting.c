@@ -5,6 +5,7 @@
 #include <string.h>
 
 #include "changes.h"
+#include "edition.h"
 #include "files.h"
 #include "messages.h"
 #include "naming.h"
@@ -79,8 +80,7 @@ static enum status look_up(const struct named *image, struct asked *asked, const
 	uint8_t reading[PAJURENDA_READ_BYTES] = { 0 };
 	struct naming naming = { .file = { .name = NULL } };
 	enum status status = FAILED;
-	const uint32_t number =
-		pajurenda_read(image->bytes.at, image->bytes.length, reading, sizeof reading);
+	const uint32_t number = read_newer(&image->bytes, reading);
 	if (number != PAJURENDA_ACCEPTED)
 		return refuse_asked(number, image, reading, asked);
 	if (load_naming(options, image, reading, &naming) &&

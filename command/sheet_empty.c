@@ -1,6 +1,7 @@
 /* sheet empty IMAGE OUT: the sheet that sets nothing, with which a release only moves. */
 #include <stdlib.h>
 
+#include "edition.h"
 #include "files.h"
 #include "messages.h"
 #include "released.h"
@@ -12,8 +13,7 @@ static enum status save_empty(struct named *image, const char *out)
 	uint8_t reading[PAJURENDA_READ_BYTES] = { 0 };
 	uint8_t empty[PAJURENDA_EMPTY_SHEET], answer[PAJURENDA_RELEASE_BYTES];
 	const struct bytes sheet = { .at = empty, .length = sizeof empty };
-	const uint32_t number = pajurenda_read(image->bytes.at, image->bytes.length, reading,
-					       sizeof reading);
+	const uint32_t number = read_newer(&image->bytes, reading);
 	if (number != PAJURENDA_ACCEPTED)
 		return refuse_image(number, pajurenda_field(reading, PAJURENDA_READ_INDEX), image);
 	if (!move_alone(&image->bytes, pajurenda_field(reading, PAJURENDA_READ_BASE), answer))

@@ -9,6 +9,7 @@
 #include <string.h>
 
 #include "changes.h"
+#include "edition.h"
 #include "files.h"
 #include "making.h"
 #include "messages.h"
@@ -108,8 +109,7 @@ static enum status make_of(struct making *m, struct named *text, const char *out
 {
 	struct naming naming = { .file = { .name = NULL } };
 	uint8_t judged[PAJURENDA_SHEET_BYTES];
-	const uint32_t number = pajurenda_read(m->image.bytes.at, m->image.bytes.length, m->reading,
-					       sizeof m->reading);
+	const uint32_t number = read_newer(&m->image.bytes, m->reading);
 	if (number != PAJURENDA_ACCEPTED)
 		return refuse_image(number, pajurenda_field(m->reading, PAJURENDA_READ_INDEX),
 				    &m->image);

@@ -8,6 +8,7 @@
 #include <unistd.h>
 
 #include "changes.h"
+#include "edition.h"
 #include "files.h"
 #include "messages.h"
 #include "naming.h"
@@ -105,8 +106,7 @@ static enum status start_text(const struct named *image, const char *out, const 
 {
 	uint8_t reading[PAJURENDA_READ_BYTES] = { 0 };
 	struct naming naming = { .file = { .name = NULL } };
-	const uint32_t number =
-		pajurenda_read(image->bytes.at, image->bytes.length, reading, sizeof reading);
+	const uint32_t number = read_newer(&image->bytes, reading);
 	if (number != PAJURENDA_ACCEPTED)
 		return refuse_image(number, pajurenda_field(reading, PAJURENDA_READ_INDEX), image);
 	const enum status status = load_naming(options, image, reading, &naming)

@@ -7,6 +7,7 @@
 #include <stdlib.h>
 #include <string.h>
 
+#include "edition.h"
 #include "files.h"
 #include "letters.h"
 #include "messages.h"
@@ -16,8 +17,7 @@
 bool begin_trial(const struct named *image, struct trial *trial)
 {
 	memset(trial->reading, 0, sizeof trial->reading);
-	const uint32_t number = pajurenda_read(image->bytes.at, image->bytes.length, trial->reading,
-					       sizeof trial->reading);
+	const uint32_t number = read_newer(&image->bytes, trial->reading);
 	if (number != PAJURENDA_ACCEPTED) {
 		refuse_image(number, pajurenda_field(trial->reading, PAJURENDA_READ_INDEX), image);
 		return false;

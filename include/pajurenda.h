@@ -12,7 +12,7 @@
  * Each call writes its answer into the caller's answer buffer: 64-bit little-endian numbers at the
  * offsets named below, from the buffer's first byte. Bytes after the answer are kept. The call
  * returns the answer's number: 0 where accepted, else that of the refusal (images 1 to 20 and 22 to
- * 27, hand-off blocks 30 to 33, Intel HEX 1, 18, 50 and 53). Where the answer buffer is shorter than the answer, the call returns
+ * 28, hand-off blocks 30 to 33, Intel HEX 1, 18, 50 and 53). Where the answer buffer is shorter than the answer, the call returns
  * PAJURENDA_SHORT and nothing at all is written anywhere. The calls of the station have no answer but
  * the number they return (40 and 41 are theirs), and a state in the answer buffer's place.
  *
@@ -34,9 +34,9 @@ extern "C" {
 #endif
 
 /* The version of header and library: the whole, and its three numbers. */
-#define PAJURENDA_VERSION "0.14.0"
+#define PAJURENDA_VERSION "0.15.0"
 #define PAJURENDA_VERSION_MAJOR 0
-#define PAJURENDA_VERSION_MINOR 14
+#define PAJURENDA_VERSION_MINOR 15
 #define PAJURENDA_VERSION_PATCH 0
 
 /* The answer's number. A check is made only if all earlier ones passed. */
@@ -68,6 +68,7 @@ enum {
 	PAJURENDA_MODULE = 25,    /* a file, a section, a module or a relocation block; after 14 */
 	PAJURENDA_WORD = 26,      /* a word of the move where none may be; after 25 */
 	PAJURENDA_RELOCATION = 27, /* a relocation entry's type; after 26 */
+	PAJURENDA_READ_ONLY = 28, /* an edition 1 image, which is read and audited alone; after 27 */
 	PAJURENDA_BLOCK = 30,     /* a hand-off block's header or length; after 32 */
 	PAJURENDA_FIRST = 31,     /* the first block isn't the handoff block of 56 bytes */
 	PAJURENDA_NOTHING = 32,   /* no byte is left where a block should stand; before 30 */
@@ -104,17 +105,23 @@ enum {
 	PAJURENDA_CONTENT_PATCH_WORD = 8    /* a patch word, of 4 bytes */
 };
 
-/* The answer of pajurenda_read; where refused, zeros after number and index. */
+/*
+ * The answer of pajurenda_read; where refused, zeros after number and index. An accepted image of
+ * edition 1 (header revision 1) has component, n, E and extended number 0. Its c and z are handed
+ * over as they stand: no rule was asked of them, they may be any numbers and mean nothing there, so
+ * that nothing may be indexed, measured or allocated by them. pajurenda_edition tells the editions
+ * apart.
+ */
 enum {
 	PAJURENDA_READ_NUMBER = 0,
 	PAJURENDA_READ_INDEX = 8,      /* the first patch entry at fault for 12, 22, 13, 14, else 0 */
 	PAJURENDA_READ_HEADER = 16,    /* H, the position of the FSP header */
-	PAJURENDA_READ_COMPONENT = 24, /* 1 (T), 2 (M), 3 (S) or 4 (I) */
+	PAJURENDA_READ_COMPONENT = 24, /* 1 (T), 2 (M), 3 (S) or 4 (I); 0: edition 1 */
 	PAJURENDA_READ_IDENTITY = 32,  /* the eight bytes at H+16, in the image's order */
 	PAJURENDA_READ_REVISION = 40,  /* the image revision */
 	PAJURENDA_READ_BASE = 48,      /* the base the image is at */
-	PAJURENDA_READ_REGION = 56,    /* c, the position of the configuration region */
-	PAJURENDA_READ_SIZE = 64,      /* z, the size of the configuration region */
+	PAJURENDA_READ_REGION = 56,    /* c, the position of the configuration region; edition 2 */
+	PAJURENDA_READ_SIZE = 64,      /* z, the size of the configuration region; edition 2 */
 	PAJURENDA_READ_COUNT = 72,     /* n, the number of patch entries */
 	PAJURENDA_READ_END = 80,       /* E, the position after the last patch entry */
 	PAJURENDA_READ_EXTENDED = 88,  /* the extended number, 16 bits; 0 below header revision 6 */
@@ -237,14 +244,15 @@ enum {
 
 /*
  * Reads an image: number 0 and its facts, or one of the image's own refusals, which every call on an
- * image has: 1 to 12, 22, 13, 14, 25, 26, 27, looked at in this order.
+ * image has: 1 to 12, 22, 13, 14, 25, 26, 27, looked at in this order. Of an edition 1 image (header
+ * revision 1) only 1 to 6 and 8 are looked at.
  */
 uint32_t pajurenda_read(const uint8_t *image, size_t length,
 			uint8_t *answer, size_t answer_length);
 
 /*
- * Lists an image's modules and the words that a move changes; the image's own refusals, then 20. An
- * entry is four little-endian bytes, its place + 16,777,216 * its code: first the base word, each
+ * Lists an image's modules and the words that a move changes; the image's own refusals, then 28, 20.
+ * An entry is four little-endian bytes, its place + 16,777,216 * its code: first the base word, each
  * patch word in table order, then for each module in file order its file, the module itself, its
  * image base and each of its relocation words in table order. Bytes after the last entry are kept.
  * For 20 the counts are the true ones and no byte of the list is written, so that a call with a list
@@ -257,7 +265,7 @@ uint32_t pajurenda_contents(const uint8_t *image, size_t image_length,
 /*
  * Releases an image in place: the sheet's settings, and the move of the base word, each patch word
  * and each module's image base and relocation words to the new base; the image's own refusals, then
- * 15, 23, 16, 17, 24, 18. Words of 4 bytes take the move modulo 2^32, words of 8 modulo 2^64; no check
+ * 28, 15, 23, 16, 17, 24, 18. Words of 4 bytes take the move modulo 2^32, words of 8 modulo 2^64; no check
  * sum of a file or a module is mended. The sheet is for an image by three parts: identity (its bytes 0
  * to 7), revision (8 to 11) and extended number (14 and 15; older sheets have 0 there). The empty sheet
  * (pajurenda_empty_sheet) moves alone, the image's present base sets alone. A base of 2^32 or more
@@ -279,8 +287,8 @@ uint32_t pajurenda_sheet(const uint8_t *sheet, size_t sheet_length,
 			 uint8_t *answer, size_t answer_length);
 
 /*
- * Finds one setting by offset in the region and size; the image's own refusals, then 17. Its answer
- * has no index; pajurenda_read names the entry of 12, 22, 13 and 14.
+ * Finds one setting by offset in the region and size; the image's own refusals, then 28, 17. Its
+ * answer has no index; pajurenda_read names the entry of 12, 22, 13 and 14.
  */
 uint32_t pajurenda_setting(const uint8_t *image, size_t length, uint64_t offset, uint64_t size,
 			   uint8_t *answer, size_t answer_length);
@@ -290,7 +298,8 @@ uint32_t pajurenda_setting(const uint8_t *image, size_t length, uint64_t offset,
  * refusals, then 19, 18, 20. The list has places_length / 4 places of four little-endian bytes,
  * filled in order of position: the position of a differing setting byte, or the position +
  * 16,777,216 of a stray. Bytes after the last entry are kept. For 20, settings + strays is the
- * number of places to ask again with.
+ * number of places to ask again with. A vendor image of edition 1 is compared byte for byte and not
+ * moved: every difference is a stray, those of the base word too, and the base is the shipped word.
  */
 uint32_t pajurenda_audit(const uint8_t *vendor, size_t vendor_length,
 			 const uint8_t *shipped, size_t shipped_length,
@@ -377,6 +386,17 @@ static inline int pajurenda_has_index(uint32_t number)
 	       number == PAJURENDA_RESERVED;
 }
 
+/*
+ * The edition of the image that an accepted pajurenda_read answered for, 1 or 2; 0 where it was
+ * refused. Of edition 1 nothing but header, identity, revision and base may be made use of.
+ */
+static inline unsigned pajurenda_edition(const uint8_t *answer)
+{
+	if (pajurenda_field(answer, PAJURENDA_READ_NUMBER) != PAJURENDA_ACCEPTED)
+		return 0;
+	return pajurenda_field(answer, PAJURENDA_READ_COMPONENT) == 0 ? 1 : 2;
+}
+
 /* The eight bytes of the identity in the answer of pajurenda_read. */
 static inline const uint8_t *pajurenda_identity(const uint8_t *answer)
 {
@@ -387,7 +407,8 @@ static inline const uint8_t *pajurenda_identity(const uint8_t *answer)
  * An image's version, major.minor.revision.build, from the revision and the extended number that a
  * reading gives or a sheet has. By the FSP specification 2.5 (FSP_INFO_HEADER, ImageRevision at 12
  * and ExtendedImageRevision at 76) the extended number's low byte is the upper half of the build,
- * its high byte that of the revision:
+ * its high byte that of the revision; edition 1 has the major number in bits 15 to 8 of the
+ * revision, the minor one in bits 7 to 0, and no other:
  * pajurenda_image_build(pajurenda_field(answer, PAJURENDA_READ_REVISION),
  *                       pajurenda_field(answer, PAJURENDA_READ_EXTENDED)).
  */
@@ -443,13 +464,13 @@ static inline void pajurenda_put_range(uint8_t *at, uint32_t offset, uint16_t le
 
 /*
  * The owner list that gives every setting of an image to one owner, by the answer of an accepted
- * pajurenda_read. Its length: PAJURENDA_RANGE_BYTES, or 0 where the region has no setting and no byte
- * is written.
+ * pajurenda_read. Its length: PAJURENDA_RANGE_BYTES, or 0 where there is no setting (none in the
+ * region, or an image of edition 1) and no byte is written.
  */
 static inline size_t pajurenda_one_owner(const uint8_t *answer, uint16_t owner, uint8_t *owners)
 {
 	const uint64_t size = pajurenda_field(answer, PAJURENDA_READ_SIZE);
-	if (size <= 32)
+	if (size <= 32 || pajurenda_edition(answer) != 2)
 		return 0;
 	pajurenda_put_range(owners, 32, (uint16_t)(size - 32), owner);
 	return PAJURENDA_RANGE_BYTES;
@@ -583,6 +604,7 @@ static inline const char *pajurenda_name(uint32_t number)
 	case PAJURENDA_MODULE: return "MODULE";
 	case PAJURENDA_WORD: return "WORD";
 	case PAJURENDA_RELOCATION: return "RELOCATION";
+	case PAJURENDA_READ_ONLY: return "READ-ONLY";
 	case PAJURENDA_BLOCK: return "BLOCK";
 	case PAJURENDA_FIRST: return "FIRST";
 	case PAJURENDA_NOTHING: return "NOTHING";
@@ -608,10 +630,12 @@ static inline const char *pajurenda_image_sentence(uint32_t number)
 		return "the volume's first file must be 912740BE-2284-4734-B971-84B027353F0C, not "
 		       "large, its header's sum 0, its size s 28 or more, and lie within V";
 	case PAJURENDA_SECTION:
-		return "the header file's section must be of type 0x19 and of size 76 to s-24";
+		return "the header file's section must be of type 0x19 and of size 76 (64 where the "
+		       "header's revision is 1) to s-24";
 	case PAJURENDA_HEADER:
 		return "the section must start with FSPH, of revision 3 or more and a length L "
-		       "from 72 (from revision 6 on, 80) to 256, with 4+L within the section's size";
+		       "from 72 (from revision 6 on, 80) to 256, or of revision 1 and a length of 60 or "
+		       "64, with 4+L within the section's size";
 	case PAJURENDA_SIZE: return "the header must give the image's length";
 	case PAJURENDA_COMPONENT: return "the component must be 1 (T), 2 (M), 3 (S) or 4 (I)";
 	case PAJURENDA_BASE:
@@ -688,6 +712,9 @@ static inline const char *pajurenda_sentence(uint32_t number)
 		       "must be 1 or 2";
 	case PAJURENDA_OWNER:
 		return "every byte that the sheet sets must be in a range of the owner who asks";
+	case PAJURENDA_READ_ONLY:
+		return "an edition 1 image (header revision 1) can only be read and audited, byte for "
+		       "byte: its settings and the words of a move can't be told apart";
 	case PAJURENDA_PAIR: return "the two images must be equally long";
 	case PAJURENDA_ROOM: return "the list must have a place for each difference, or for each entry";
 	case PAJURENDA_ORDER:

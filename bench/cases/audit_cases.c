@@ -1,5 +1,6 @@
 /* The audit part: equal, moved, set and strayed files, refused pairs, and all of them in order. */
 #include "audit_cases.h"
+#include "edition_cases.h"
 
 #include <string.h>
 
@@ -164,4 +165,5 @@ void audit_part(void)
 	audit_most();
 	audit_many();
 	audit_modules();
+	audit_editions();
 }

@@ -9,11 +9,11 @@ static const struct {
 	const char *name;
 	void (*write)(void);
 	enum call call;
-	uint64_t more[7];
+	uint64_t more[8];
 } part[] = {
 	{ "read", read_part, CALL_READ, { 0 } },
-	{ "release", release_part, CALL_RELEASE, { 0, 15, 16, 17, 18, 23, 24 } },
-	{ "setting", setting_part, CALL_SETTING, { 0, 17 } },
+	{ "release", release_part, CALL_RELEASE, { 0, 15, 16, 17, 18, 23, 24, 28 } },
+	{ "setting", setting_part, CALL_SETTING, { 0, 17, 28 } },
 	{ "audit", audit_part, CALL_AUDIT, { 0, 18, 19, 20 } },
 };
 

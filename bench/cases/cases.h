@@ -112,7 +112,7 @@ void send_case(const struct order *order);
 void change_image(const uint8_t *bytes, uint64_t len);
 
 /* calls.c: one case of each call, with the number and index it is aimed at. */
-#define NUMBERS 28
+#define NUMBERS 29
 
 extern FILE *answers;
 extern uint64_t given[CALLS][NUMBERS];

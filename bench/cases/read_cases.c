@@ -1,5 +1,6 @@
 /* Reading cases: all of them in order. */
 #include "read_cases.h"
+#include "edition_cases.h"
 
 /* Every rule at its bounds. */
 static void whole_images(void)
@@ -99,4 +100,5 @@ void read_part(void)
 	random_plans();
 	random_short();
 	read_modules();
+	read_editions();
 }

@@ -1,5 +1,6 @@
 /* Releases in which sheet and base both act or are both at fault, and the whole release part. */
 #include "sheet_cases.h"
+#include "edition_cases.h"
 
 /* The draft and a base on the planned image. */
 static void release_to(uint64_t base, uint64_t number)
@@ -249,4 +250,5 @@ void release_part(void)
 	release_both();
 	release_owners();
 	release_modules();
+	release_editions();
 }

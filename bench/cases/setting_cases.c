@@ -1,5 +1,5 @@
 /* The setting part: lookups about both ends of the region, and sums that would come round if cut down. */
-#include "cases.h"
+#include "edition_cases.h"
 
 /* A small plan with room for settings, built; no byte of the region is its neighbour's. */
 static void setting_start(unsigned k)
@@ -128,4 +128,5 @@ void setting_part(void)
 	setting_refused(2, false);
 	setting_random(90);
 	setting_wide();
+	setting_editions();
 }

@@ -61,7 +61,7 @@ static void refuse_all(const struct named *file, const struct named *other)
 	for (uint32_t number = 1; number <= 14; number++)
 		refuse_image(number, number < 12 ? 0 : below(below(2) == 0 ? 5 : 1024), file);
 	refuse_image(PAJURENDA_RESERVED, below(below(2) == 0 ? 5 : 1024), file);
-	for (uint32_t number = PAJURENDA_MODULE; number <= PAJURENDA_RELOCATION; number++)
+	for (uint32_t number = PAJURENDA_MODULE; number <= PAJURENDA_READ_ONLY; number++)
 		refuse_image(number, 0, file);
 	for (uint32_t number = 30; number <= 33; number++)
 		refuse_handoff(number, below(below(2) == 0 ? 300 : UINT64_MAX), file);

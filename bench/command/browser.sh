@@ -141,6 +141,8 @@ try_browser() {
 	opened unexplained 1 audit vendor.bin shipped.bin
 	cp "$root/crates/run_explained/data/shipped.bin" shipped.bin
 	opened explained 0 audit vendor.bin shipped.bin
+	changed "$vendor" older.bin 111 1 104 60
+	opened older 1 audit older.bin shipped.bin
 	cp "$i/released" shipped.bin
 	flip shipped.bin 4197 4198
 	flip shipped.bin 4300 4340

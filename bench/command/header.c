@@ -16,11 +16,11 @@ static void check(int right, const char *what)
 	wrong++;
 }
 
-/* The names, 0 to 27; 21 has none. */
+/* The names, 0 to 28; 21 has none. */
 static const char *const names[] = {
 	"ACCEPTED", "LENGTH", "VOLUME", "FILE", "SECTION", "HEADER", "SIZE", "COMPONENT", "BASE", "TABLE", "CONFIG",
 	"UPD", "TYPE", "PLACE", "OVERLAP", "SHEET", "IDENTITY", "FIELD", "NEWBASE", "PAIR", "ROOM",
-	"unknown", "RESERVED", "OWNERS", "OWNER", "MODULE", "WORD", "RELOCATION",
+	"unknown", "RESERVED", "OWNERS", "OWNER", "MODULE", "WORD", "RELOCATION", "READ-ONLY",
 };
 
 /* The names of 30 to 33, and of the kinds of blocks. */
@@ -91,7 +91,7 @@ static void try_hex(void)
 /* Each number has its name and a sentence that no other has. */
 static void try_numbers(void)
 {
-	for (uint32_t i = 0; i <= 27; i++) {
+	for (uint32_t i = 0; i <= 28; i++) {
 		check(strcmp(pajurenda_name(i), names[i]) == 0, "a name");
 		check(pajurenda_has_index(i) == (i == 12 || i == 13 || i == 14 || i == 22), "an index");
 		if (i == 21)
@@ -102,7 +102,7 @@ static void try_numbers(void)
 	}
 	check(strcmp(pajurenda_name(PAJURENDA_SHORT), "SHORT") == 0, "the name of 100");
 	check(strcmp(pajurenda_sentence(PAJURENDA_SHORT), "unknown") != 0, "the sentence of 100");
-	static const uint32_t others[] = { 21, 28, 29, 34, 39, 42, 49, 51, 52, 54, 99, 101, 65536, 65537, 4294967295u };
+	static const uint32_t others[] = { 21, 29, 34, 39, 42, 49, 51, 52, 54, 99, 101, 65536, 65537, 4294967295u };
 	for (size_t i = 0; i < sizeof others / sizeof others[0]; i++) {
 		check(strcmp(pajurenda_name(others[i]), "unknown") == 0, "a name of no answer");
 		check(strcmp(pajurenda_sentence(others[i]), "unknown") == 0, "a sentence of no answer");
@@ -168,6 +168,7 @@ static void try_owners(void)
 	memset(list, 0x99, sizeof list);
 	pajurenda_put_range(list, 0x11223344, 0x5566, 0x7788);
 	check(memcmp(list, wanted, sizeof wanted) == 0 && sizeof list == sizeof wanted, "a range");
+	answer[PAJURENDA_READ_COMPONENT] = 4;
 	answer[PAJURENDA_READ_SIZE + 2] = 1;
 	check(pajurenda_one_owner(answer, 2, list) == 8, "the length of all settings of the largest region");
 	check(memcmp(list, "\x20\0\0\0\xE0\xFF\2\0\x99", 9) == 0, "all settings of the largest region");
@@ -179,6 +180,23 @@ static void try_owners(void)
 		check(size > 32 ? list[0] == 32 && list[4] == size - 32 && list[6] == 1 : list[0] == 0x99, "all settings");
 	}
 	check(PAJURENDA_MOST_RANGES == 64, "the most ranges");
+}
+
+/* The edition by number and component; edition 1 has no settings to own, whatever stands where z would. */
+static void try_edition(void)
+{
+	uint8_t answer[PAJURENDA_READ_BYTES] = { 0 }, list[PAJURENDA_RANGE_BYTES];
+	check(pajurenda_edition(answer) == 1, "edition 1");
+	memset(answer + PAJURENDA_READ_SIZE, 0xFF, 4);
+	memset(list, 0x99, sizeof list);
+	check(pajurenda_one_owner(answer, 1, list) == 0 && list[0] == 0x99, "no settings of edition 1");
+	for (uint8_t component = 1; component <= 4; component++) {
+		answer[PAJURENDA_READ_COMPONENT] = component;
+		check(pajurenda_edition(answer) == 2, "edition 2");
+	}
+	answer[PAJURENDA_READ_NUMBER] = PAJURENDA_HEADER;
+	check(pajurenda_edition(answer) == 0, "no edition of a refused image");
+	check(pajurenda_one_owner(answer, 1, list) == 0 && list[0] == 0x99, "no settings of a refused image");
 }
 
 /* The parts of a version from its two numbers. */
@@ -251,6 +269,7 @@ int main(void)
 	try_image_version();
 	try_sheets();
 	try_owners();
+	try_edition();
 	try_place(0, 0, 0);
 	try_place(16777215, 0, 16777215);
 	try_place(16777216, 1, 0);

@@ -36,10 +36,16 @@ def parts(d, version):
 PARTS = ["identity", "identity_text", "revision", "extended", "version"]
 def read(d):
     words = ["base_word", "patch_words", "module_words"] if "base_word" in d else []
-    has(d, "command", "file", "number", "name", "index", "length", "component", *PARTS, "base", "header", "patches", "end", "region", "modules", "words",
+    has(d, "command", "file", "number", "name", "index", "length", "edition", "component", *PARTS, "base", "header", "patches", "end", "region", "modules", "words",
         "relocation_words", *words)
-    print("length %d\ncomponent %s" % (whole(d["length"]), d["component"]))
+    older = d["edition"] == 1
+    assert older == (d["component"] is None) == (d["region"] is None) and d["edition"] in (1, 2)
+    print("length %d\n%s" % (whole(d["length"]), "edition 1" if older else "component " + d["component"]))
     parts(d, "\nversion ")
+    if older:
+        assert not words and all(d[name] is None for name in ("patches", "end", "region", "modules", "words", "relocation_words"))
+        print("base %s\nheader %d" % (hexed(d["base"], 8), whole(d["header"])))
+        return
     print("base %s\nheader %d\npatches %d\nend %d" % (hexed(d["base"], 8), whole(d["header"]), whole(d["patches"]), whole(d["end"])))
     has(d["region"], "place", "size")
     print("region c %d z %d" % (whole(d["region"]["place"]), whole(d["region"]["size"])))
@@ -93,11 +99,14 @@ def ranges(d, verify):
                 line += ", entry %d of %s" % (by["entry"], d["sheets"][by["sheet"]]["file"])
         yield line
 def check(d, verify):
-    has(d, "command", "vendor", *(["sheets", "owners", "owner"] if verify else []), "shipped", "number", "name", "index", "names", "base", "move", "settings", "strays",
+    has(d, "command", "vendor", *(["sheets", "owners", "owner"] if verify else []), "shipped", "number", "name", "index", "names", "edition", "base", "move", "settings", "strays",
         "bits", "ranges", "must", "required", "not_checked", "verdict")
     assert d["names"] is None and d["must"] is None and d["required"] is None
     if verify:
         print("verdict " + d["verdict"])
+    assert (d["edition"] == 1) == (d["move"] is None) and d["edition"] in ((2,) if verify else (1, 2))
+    if d["edition"] == 1:
+        print("edition 1 byte for byte; settings can't be told apart")
     print("base " + hexed(d["base"], 8))
     if verify:
         print("move %d" % whole(d["move"]))
@@ -171,7 +180,7 @@ try_read_json() {
 	said 0 read --words "$i/odd"
 	works 0 read --json "$vendor"
 	prints '{' '  "command": "read",' "  \"file\": \"$vendor\"," '  "number": 0,' '  "name": "ACCEPTED",' '  "index": 0,' '  "length": 8192,' \
-		'  "component": "T",' '  "identity": "54524541542D3031",' '  "identity_text": "TREAT-01",' '  "revision": "0x01020304",' \
+		'  "edition": 2,' '  "component": "T",' '  "identity": "54524541542D3031",' '  "identity_text": "TREAT-01",' '  "revision": "0x01020304",' \
 		'  "extended": "0x0000",' '  "version": "1.2.3.4",' '  "base": "0xFFF80000",' '  "header": 100,' '  "patches": 4,' '  "end": 200,' \
 		'  "region": {"place": 4096, "size": 400},' '  "modules": 0,' '  "words": 5,' '  "relocation_words": 0' '}'
 	said_refused 14 2 '' read "$refused"

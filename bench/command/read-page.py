@@ -133,8 +133,12 @@ def check_marks(lane, start, length, wanted, name):
 
 def check_maps(root, ranges, facts):
     length = int(facts["length"])
-    region, size = int(facts["Region at"]), int(facts["Region's bytes"])
-    for name, start, stretch in (("image", 0, length), ("region", region, size)):
+    stretches = [("image", 0, length)]
+    if "Edition" in facts:
+        assert facts["Edition"] == "1" and not [node for node in root.all("div", "map") if node.attributes["id"] == "region"]
+    else:
+        stretches.append(("region", int(facts["Region at"]), int(facts["Region's bytes"])))
+    for name, start, stretch in stretches:
         map_of = [node for node in root.all("div", "map") if node.attributes["id"] == name]
         assert len(map_of) == 1
         for kind in ("settings", "sheets", "others", "strays"):

@@ -6,8 +6,8 @@ rule_volume="the volume's header must have the mark _FVH, an even length h from 
 V within the file"
 rule_file="the volume's first file must be 912740BE-2284-4734-B971-84B027353F0C, not large, its header's sum 0, its size s 28 \
 or more, and lie within V"
-rule_header="the section must start with FSPH, of revision 3 or more and a length L from 72 (from revision 6 on, 80) to 256, with 4+L \
-within the section's size"
+rule_header="the section must start with FSPH, of revision 3 or more and a length L from 72 (from revision 6 on, 80) to 256, or of \
+revision 1 and a length of 60 or 64, with 4+L within the section's size"
 rule_table="a patch table FSPP, of revision 1 and at most 1024 entries, must follow the header or its FSPE of \
 24 bytes or more, within the section"
 rule_sheet='a sheet must have 16 to 65535 bytes: contents (at most 256 entries in order, none empty), then bodies without a gap or a rest'
@@ -86,9 +86,9 @@ try_file_outside() {
 
 try_section() {
 	image b 99 '\030'
-	refuses 4 b "the header file's section must be of type 0x19 and of size 76 to s-24: type 0x18, size 104, s 128" read b
+	refuses 4 b "the header file's section must be of type 0x19 and of size 76 (64 where the header's revision is 1) to s-24: type 0x18, size 104, s 128" read b
 	image b 96 '\113'
-	values 4 b 'type 0x19, size 75, s 128' read b
+	values 4 b 'type 0x19, size 75, s 128, header revision 3' read b
 	image b 96 '\151'
 	values 4 b 'type 0x19, size 105, s 128' read b
 }

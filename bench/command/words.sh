@@ -16,7 +16,7 @@ try_help() {
 	cp "$work/out" "$work/help.all"
 	for word in read release 'sheet empty' 'sheet start' 'sheet make' 'sheet show' 'must show' 'owners all' 'owners show' setting audit verify 'hex export' 'hex import' handoff station help --modules --words --bytes \
 		--ranges --json --report --text --list --reports --owners --owner --names --must --base --hex --version 'Exit status' ' 20  ROOM' ' 22  RESERVED' ' 23  OWNERS' ' 24  OWNER' \
-		' 25  MODULE' ' 26  WORD' ' 27  RELOCATION' '1 to 12, 22, 13, 14, 25, 26, 27' '15, 23,' ' 33  KIND' ' 40  ORDER' ' 41  UNKNOWN' ' 50  TEXT' ' 53  SPACE'; do
+		' 25  MODULE' ' 26  WORD' ' 27  RELOCATION' ' 28  READ-ONLY' '1 to 12, 22, 13, 14, 25, 26, 27' '28, 15, 23,' ' 33  KIND' ' 40  ORDER' ' 41  UNKNOWN' ' 50  TEXT' ' 53  SPACE'; do
 		grep -qF -e "$word" "$work/out" || fail "the help does not speak of $word"
 		passed
 	done

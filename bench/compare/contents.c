@@ -65,16 +65,12 @@ static void write_list(const uint8_t *image, size_t length, uint8_t *list, const
 uint32_t model_contents(const uint8_t *image, size_t image_length, uint8_t *list, size_t list_length,
 			uint8_t *answer)
 {
-	const struct second_reading r = second_read(image, image_length);
-	uint64_t fields[] = { r.number, r.index, 0, 0, 0 };
-	if (r.number == PAJURENDA_ACCEPTED) {
-		fields[2] = second_modules(image, image_length, NULL, 0);
-		fields[3] = second_words(image, image_length, NULL, 0);
-		fields[4] = fields[3] + 2 * fields[2];
-		fields[0] = list_length / 4 < fields[4] ? PAJURENDA_ROOM : PAJURENDA_ACCEPTED;
-	}
-	if (r.number == PAJURENDA_ACCEPTED && fields[0] == PAJURENDA_ACCEPTED)
-		write_list(image, image_length, list, fields, r.n);
+	const struct second_contents r = second_contents(image, image_length);
+	uint64_t fields[] = { r.number, r.index, r.modules, r.words, r.words + 2 * r.modules };
+	if (r.number == PAJURENDA_ACCEPTED && list_length / 4 < fields[4])
+		fields[0] = PAJURENDA_ROOM;
+	if (fields[0] == PAJURENDA_ACCEPTED)
+		write_list(image, image_length, list, fields, second_read(image, image_length).n);
 	put_fields(answer, fields, FIELDS(fields));
 	return (uint32_t)fields[0];
 }

@@ -26,6 +26,9 @@ static uint64_t right_sheets[3];
 /* Accepted images with modules and without, by call. */
 static uint64_t with_modules[CALLS][2];
 
+/* #109: images of edition 1 that read, by call; their audits, explained and not. */
+static uint64_t of_older[CALLS], older_audits[2];
+
 /* Accepted releases, by whether the sheet has entries and whether the base is another. */
 static uint64_t released[2][2];
 
@@ -54,9 +57,25 @@ static void count_edge(enum call call, uint32_t number)
 		}
 }
 
+/* #109: the revision byte of the image that was given is 1. */
+static bool says_older(void)
+{
+	return plan.H + 12 <= length[IMAGE] && model[IMAGE][plan.H + 11] == 1;
+}
+
+/* A call that got past the reading of an image of edition 1; an audit's answer is in its buffer. */
+static void count_edition(enum call call, uint32_t number)
+{
+	const bool accepted = number == 0 && (call == READ || call == AUDIT) && says_older();
+	of_older[call] += accepted || number == PAJURENDA_READ_ONLY ? 1 : 0;
+	if (call == AUDIT && accepted)
+		older_audits[get_number(model[ANSWER], 48, 8)]++;
+}
+
 /* One call's number. */
 void count_call(enum call call, uint32_t number)
 {
+	count_edition(call, number);
 	seen[call][number]++;
 	if (number == 0)
 		with_modules[call][plan.cover.M != NOWHERE]++;
@@ -142,10 +161,10 @@ static bool can_be(enum call call, int number)
 	switch (call) {
 	case RELEASE:
 		return (number >= PAJURENDA_SHEET && number <= PAJURENDA_NEWBASE) ||
-		       number == PAJURENDA_OWNERS || number == PAJURENDA_OWNER;
-	case SETTING: return number == PAJURENDA_FIELD;
+		       number == PAJURENDA_OWNERS || number == PAJURENDA_OWNER || number == PAJURENDA_READ_ONLY;
+	case SETTING: return number == PAJURENDA_FIELD || number == PAJURENDA_READ_ONLY;
 	case AUDIT: return number >= PAJURENDA_NEWBASE && number <= PAJURENDA_ROOM;
-	case CONTENTS: return number == PAJURENDA_ROOM;
+	case CONTENTS: return number == PAJURENDA_ROOM || number == PAJURENDA_READ_ONLY;
 	default: return false;
 	}
 }
@@ -199,6 +218,16 @@ static bool show_modules(void)
 	return each;
 }
 
+/* How often images of edition 1 read; false where a call never had one, or an audit of one never went either way. */
+static bool show_editions(void)
+{
+	printf("edition 1 read: %" PRIu64 ", released: %" PRIu64 ", looked into: %" PRIu64 ", listed: %" PRIu64
+	       ", audited: %" PRIu64 ", of these explained: %" PRIu64 ", unexplained: %" PRIu64 "\n", of_older[READ], of_older[RELEASE],
+	       of_older[SETTING], of_older[CONTENTS], of_older[AUDIT], older_audits[1], older_audits[0]);
+	return of_older[READ] != 0 && of_older[RELEASE] != 0 && of_older[SETTING] != 0 && of_older[CONTENTS] != 0 &&
+	       older_audits[0] != 0 && older_audits[1] != 0;
+}
+
 /* How often the lengths came that document 01 draws the line at. */
 static void show_lengths(void)
 {
@@ -237,10 +266,11 @@ int conclude(uint64_t first, uint64_t count)
 	for (int call = 0; call < CALLS; call++)
 		show_seen(call_name[call], seen[call]);
 	show_lengths();
-	const bool every_way = show_released(), every_list = show_owners(), every_sheet = show_sheets() && show_modules();
+	const bool every_way = show_released(), every_list = show_owners(), every_sheet = show_sheets();
+	const bool every_image = show_modules() && show_editions();
 	for (int call = 0; first == 0 && count >= CALLS * EDGES && call < CALLS; call++)
 		all = had_all((enum call)call, count >= LONG) && all;
-	if (first == 0 && count >= LONG && !(every_way && every_list && every_sheet))
+	if (first == 0 && count >= LONG && !(every_way && every_list && every_sheet && every_image))
 		all = false;
 	printf("same: %" PRIu64 " calls%s\n", count, all ? "" : ", but not of every kind");
 	return all ? 0 : 1;

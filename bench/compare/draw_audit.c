@@ -44,11 +44,13 @@ static void draw_places(void)
 	fill_bytes(model[PLACES], length[PLACES]);
 }
 
-/* The shipped file moved, where it is an image that reads. */
+/* The shipped file moved, where it is an image that reads; of edition 1 the base word alone, as nothing moves. */
 static void move_shipped(uint64_t base)
 {
 	uint8_t empty[EMPTY_SHEET];
 	const struct second_reading r = second_read(model[OTHER], length[OTHER]);
+	if (r.number == 0 && r.component == 0)
+		put_number(model[OTHER], (size_t)(r.H + 28), 4, base);
 	empty_sheet(empty, r.image_identity, r.revision, r.extended);
 	(void)second_release(model[OTHER], length[OTHER], empty, EMPTY_SHEET, base, empty, 0, 1);
 }

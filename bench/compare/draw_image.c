@@ -55,7 +55,7 @@ static void damage_edge(void)
 		{ 32, 8, f + plan.s }, { 32, 8, length[IMAGE] }, { 48, 2, 72 },
 		{ 52, 2, plan.h }, { plan.x + 16, 4, plan.V - plan.x }, { plan.x + 16, 4, 20 },
 		{ f + 20, 3, 28 }, { f + 20, 3, plan.V - f }, { f + 20, 3, 24 + plan.S },
-		{ in, 3, 76 }, { in, 3, 4 + plan.L }, { in, 3, plan.g + 4 - in },
+		{ in, 3, 76 }, { in, 3, 64 }, { H + 4, 4, 60 }, { H + 4, 4, 64 }, { H + 11, 1, 1 }, { in, 3, 4 + plan.L }, { in, 3, plan.g + 4 - in },
 		{ in, 3, plan.g + 8 - in }, { in, 3, plan.p + 12 - in }, { in, 3, plan.E - in },
 		{ in, 3, plan.s - 24 }, { H + 4, 4, 72 }, { H + 4, 4, 256 },
 		{ H + 4, 4, plan.S - 4 }, { H + 4, 4, 80 }, { H + 11, 1, 3 }, { H + 11, 1, 6 }, { H + 24, 4, length[IMAGE] },
@@ -193,6 +193,8 @@ static void build_image(uint64_t at_least, bool right)
 void draw_image(void)
 {
 	build_image(drawn_length(), false);
+	if (below(6) == 0)
+		turn_older();
 	const uint64_t kind = below(40);
 	if (kind == 0)
 		length[IMAGE] = (size_t)below(120);

@@ -28,6 +28,9 @@ void draw_image(void);
 void draw_edge(enum edge edge);
 uint64_t drawn_value(uint64_t old, unsigned width);
 
+/* draw_edition.c: #109, the image that was built as one of edition 1. */
+void turn_older(void);
+
 /* draw_modules.c: damage to the files after the header file, and to the modules. */
 void damage_file(void);
 void damage_free(void);

@@ -20,6 +20,7 @@ struct letters {
 	uint64_t h, V, x, e;
 	uint64_t f, s, section;
 	uint64_t H, L;
+	bool older;	/* #109: an edition 1 header stands at H */
 	uint64_t extended;
 	uint64_t component, base;
 	uint64_t p, n, E;
@@ -136,17 +137,25 @@ static bool refuse_file(struct letters *w)
 	return w->s < 28 || w->f + w->s > w->V;
 }
 
-/* Refusal 4. */
+/* Refusals 4 and 5: the revision byte at H+11, for a section of at least 64 bytes. */
+static uint64_t header_revision(const struct letters *w)
+{
+	return w->image[w->f + 39];
+}
+
+/* Refusal 4, #109: 76 bytes at least, 64 where the revision byte is 1; it is looked at only where 64 bytes are there. */
 static bool refuse_section(struct letters *w)
 {
 	w->section = number_at(w, w->f + 24, 3);
-	return w->image[w->f + 27] != 0x19 || w->section < 76 || w->section > w->s - 24;
+	if (w->image[w->f + 27] != 0x19 || w->section < 64 || w->section > w->s - 24)
+		return true;
+	return w->section < 76 && header_revision(w) != 1;
 }
 
 /* Refusal 5, #102: from revision 6 on the header holds the extended number; below, no byte at H+76 is looked at. */
-static bool refuse_newer(struct letters *w)
+static bool refuse_extended_number(struct letters *w)
 {
-	if (w->image[w->H + 11] < 6)
+	if (header_revision(w) < 6)
 		return false;
 	if (w->L < 80)
 		return true;
@@ -154,16 +163,33 @@ static bool refuse_newer(struct letters *w)
 	return false;
 }
 
+/* Refusal 5: the rule for edition 2. */
+static bool refuse_newer(struct letters *w)
+{
+	if (header_revision(w) < 3 || w->L < 72 || w->L > 256)
+		return true;
+	return refuse_extended_number(w);
+}
+
+/* Refusal 5, #109: the rule for edition 1, two lengths and none between; c and z stand as now but nobody judges them. */
+static bool refuse_older(struct letters *w)
+{
+	if (w->L != 60 && w->L != 64)
+		return true;
+	w->older = true;
+	w->c = number_at(w, w->H + 36, 4);
+	w->z = number_at(w, w->H + 40, 4);
+	return false;
+}
+
 /* Refusal 5. */
 static bool refuse_header(struct letters *w)
 {
 	w->H = w->f + 28;
-	if (!stands(w, w->H, "FSPH") || w->image[w->H + 11] < 3)
-		return true;
 	w->L = number_at(w, w->H + 4, 4);
-	if (w->L < 72 || w->L > 256 || 4 + w->L > w->section)
+	if (!stands(w, w->H, "FSPH") || 4 + w->L > w->section)
 		return true;
-	return refuse_newer(w);
+	return header_revision(w) == 1 ? refuse_older(w) : refuse_newer(w);
 }
 
 /* Refusal 6. */
@@ -179,17 +205,11 @@ static bool refuse_component(struct letters *w)
 	return w->component < 1 || w->component > 4;
 }
 
-/* "Moving": lowest twelve bits zero, base + image size <= 2^32; a base of 2^32 or more never is. */
-static bool legal(uint64_t base, uint64_t length)
-{
-	return base < TWO32 && base % 4096 == 0 && base + length <= TWO32;
-}
-
 /* Refusal 8. */
 static bool refuse_base(struct letters *w)
 {
 	w->base = number_at(w, w->H + 28, 4);
-	return !legal(w->base, w->length);
+	return !legal_base(w->base, w->length);
 }
 
 /* Refusal 9, "Patch table": p = round4(H+L), moved past FSPE; true where FSPE is at fault. */
@@ -400,23 +420,39 @@ static struct second_reading accepted(const struct letters *w)
 }
 
 /* The table's order, 22 after 12 and 25 to 27 last: a check is made only if all earlier ones passed; 0 where accepted. */
+static const struct check {
+	uint64_t number;
+	bool (*refuse)(struct letters *);
+} check[] = {
+	{ 1, refuse_length }, { 2, refuse_volume }, { 3, refuse_file }, { 4, refuse_section },
+	{ 5, refuse_header }, { 6, refuse_size }, { 7, refuse_component }, { 8, refuse_base },
+	{ 9, refuse_table }, { 10, refuse_config }, { 11, refuse_upd }, { 12, refuse_type },
+	{ 22, refuse_reserved }, { 13, refuse_place }, { 14, refuse_overlap },
+	{ 25, refuse_modules }, { 26, refuse_words }, { 27, refuse_relocations },
+};
+
+/* #109: of an edition 1 image only 1 to 6 and 8 are judged; which edition it is shows at 5. */
+static bool judged(const struct letters *w, uint64_t number)
+{
+	return !w->older || number <= 6 || number == 8;
+}
+
+/* Refusals of the image; 0 where it is accepted. */
 static uint64_t judge(struct letters *w)
 {
-	static const struct {
-		uint64_t number;
-		bool (*refuse)(struct letters *);
-	} check[] = {
-		{ 1, refuse_length }, { 2, refuse_volume }, { 3, refuse_file }, { 4, refuse_section },
-		{ 5, refuse_header }, { 6, refuse_size }, { 7, refuse_component }, { 8, refuse_base },
-		{ 9, refuse_table }, { 10, refuse_config }, { 11, refuse_upd }, { 12, refuse_type },
-		{ 22, refuse_reserved }, { 13, refuse_place }, { 14, refuse_overlap },
-		{ 25, refuse_modules }, { 26, refuse_words }, { 27, refuse_relocations },
-	};
-
 	for (size_t i = 0; i < sizeof check / sizeof check[0]; i++)
-		if (check[i].refuse(w))
+		if (judged(w, check[i].number) && check[i].refuse(w))
 			return check[i].number;
 	return 0;
+}
+
+/* #109: for those who would change an image or look for its words or settings: its refusals, then 28. */
+static uint64_t judge_newer(struct letters *w)
+{
+	const uint64_t number = judge(w);
+	if (number == 0 && w->older)
+		return 28;
+	return number;
 }
 
 /* "Reading an image". */
@@ -433,12 +469,26 @@ struct second_reading second_read(const uint8_t *image, uint64_t length)
 	return reading;
 }
 
+/* #107, #109: an edition 1 image has no words to list. */
+struct second_contents second_contents(const uint8_t *image, uint64_t length)
+{
+	struct letters w = { .image = image, .length = length };
+	struct second_contents contents = { .number = judge_newer(&w), .index = w.index };
+
+	if (contents.number == 0) {
+		contents.modules = w.modules.count;
+		contents.words = w.modules.words;
+	}
+	second_modules_free(&w.modules);
+	return contents;
+}
+
 /* #107: the modules of an image, as many as there is room for. */
 uint64_t second_modules(const uint8_t *image, uint64_t length,
 			struct second_module *modules, uint64_t room)
 {
 	struct letters w = { .image = image, .length = length };
-	const uint64_t count = judge(&w) == 0 ? w.modules.count : 0;
+	const uint64_t count = judge_newer(&w) == 0 ? w.modules.count : 0;
 
 	for (uint64_t i = 0; i < count && i < room; i++)
 		modules[i] = w.modules.module[i].shown;
@@ -451,7 +501,7 @@ uint64_t second_words(const uint8_t *image, uint64_t length,
 		      struct second_word *words, uint64_t room)
 {
 	struct letters w = { .image = image, .length = length };
-	const uint64_t count = judge(&w) == 0 ? w.modules.words : 0;
+	const uint64_t count = judge_newer(&w) == 0 ? w.modules.words : 0;
 
 	for (uint64_t i = 0; i < count && i < room; i++)
 		words[i] = w.modules.word[i];
@@ -503,10 +553,10 @@ static bool refuse_field(const struct letters *w, const struct sheet *s)
 	return false;
 }
 
-/* #105, #106: the image's refusals, then 15, 23 (which needs z), 16, 17, 24, 18. */
+/* #105, #106, #109: the image's refusals, 28, then 15, 23 (which needs z), 16, 17, 24, 18. */
 static uint64_t judge_release(struct letters *w, struct sheet *s, const struct owners *o, uint64_t new_base)
 {
-	const uint64_t number = judge(w);
+	const uint64_t number = judge_newer(w);
 	if (number != 0)
 		return number;
 	if (second_sheet_refused(s))
@@ -519,7 +569,7 @@ static uint64_t judge_release(struct letters *w, struct sheet *s, const struct o
 		return 17;
 	if (second_owners_outside(o, s))
 		return 24;
-	return legal(new_base, w->length) ? 0 : 18;
+	return legal_base(new_base, w->length) ? 0 : 18;
 }
 
 /* "The release sheet": the body of one entry goes into the region. */
@@ -551,12 +601,12 @@ struct second_released second_release(uint8_t *image, uint64_t length,
 	return released;
 }
 
-/* "One setting": the image's refusals, then 17; the end is a whole number that is never cut down. */
+/* "One setting": the image's refusals, 28, then 17; the end is a whole number that is never cut down. */
 struct second_part second_setting(const uint8_t *image, uint64_t length,
 				  uint64_t offset, uint64_t size)
 {
 	struct letters w = { .image = image, .length = length };
-	uint64_t number = judge(&w);
+	uint64_t number = judge_newer(&w);
 
 	second_modules_free(&w.modules);
 	if (number == 0 && (size == 0 || offset < 32 || offset > w.z || size > w.z - offset))
@@ -566,7 +616,7 @@ struct second_part second_setting(const uint8_t *image, uint64_t length,
 	return (struct second_part){ .position = w.c + offset, .length = size };
 }
 
-/* "The audit": the vendor image moved, in bytes of its own. */
+/* "The audit": the vendor image moved, in bytes of its own; #109: an edition 1 image has no word in the list and stays as it is. */
 static uint8_t *moved_copy(const struct letters *w, uint64_t base)
 {
 	uint8_t *copy = malloc(w->length);
@@ -586,6 +636,12 @@ static uint64_t ones(uint64_t byte)
 	return count;
 }
 
+/* "The audit", #109: whose difference is a setting; none of an edition 1 image is. */
+static bool is_setting(const struct letters *w, uint64_t at)
+{
+	return !w->older && at >= w->c + 32 && at < w->c + w->z;
+}
+
 /* "The audit": the counts of all differences; with a list, their entries too. */
 static struct second_audited compare(const struct letters *w, const uint8_t *reference,
 				     const uint8_t *shipped, uint32_t *places)
@@ -593,7 +649,7 @@ static struct second_audited compare(const struct letters *w, const uint8_t *ref
 	struct second_audited a = { .number = 0 };
 	for (uint64_t at = 0; at < w->length; at++) {
 		const uint64_t turned = reference[at] ^ shipped[at];
-		const bool setting = at >= w->c + 32 && at < w->c + w->z;
+		const bool setting = is_setting(w, at);
 		if (turned == 0)
 			continue;
 		if (places != NULL)
@@ -634,7 +690,7 @@ static struct second_audited judge_audit(struct letters *w, const uint8_t *shipp
 	if (shipped_length != w->length)
 		return (struct second_audited){ .number = 19 };
 	const uint64_t base = little(shipped, w->H + 28, 4);
-	if (!legal(base, w->length))
+	if (!legal_base(base, w->length))
 		return (struct second_audited){ .number = 18 };
 	return audit_at(w, shipped, base, places, places_count);
 }

@@ -1,4 +1,7 @@
-/* The second reader: the calls of document 01, written apart from the library. */
+/*
+ * The second reader: the calls of document 01, written apart from the library. #109: an accepted edition 1 image has
+ * component, n and E 0; it is audited byte for byte, and every other call that gets as far as that answers 28.
+ */
 #ifndef BENCH_SECOND_H
 #define BENCH_SECOND_H
 
@@ -71,7 +74,16 @@ struct second_word {
 	uint64_t place, width;
 };
 
+/* #107, #109: how many modules and words of a move an image has; both 0 where it is refused, with 28 for edition 1. */
+struct second_contents {
+	uint64_t number, index;
+	uint64_t modules, words;
+};
+
 struct second_reading second_read(const uint8_t *image, uint64_t length);
+
+/* Whether there are contents to list, and how many. */
+struct second_contents second_contents(const uint8_t *image, uint64_t length);
 
 /* The modules in file order: up to `room` of them are written, all are counted; 0 where the image is refused. */
 uint64_t second_modules(const uint8_t *image, uint64_t length,

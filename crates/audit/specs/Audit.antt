@@ -11,7 +11,8 @@ use Rattle.facts.specs.Rules.{answer, rule}
 use Rattle.words.specs.Le.{le}
 use Rattle.words.specs.Put.{putAll}
 use Rattle.header.specs.Base.{legalBase}
-use Rattle.reading_rules.specs.Reading.{reading}
+use Rattle.answers.specs.declared.Reading.{Reading}
+use Rattle.reading_rules.specs.Reading.{parted, edition1, reading}
 use Rattle.answers.specs.After.{afterReading, unlessRefused}
 use Rattle.move_image.specs.Moving.{moveTo}
 use Rattle.answers.specs.declared.Audited.{Audited}
@@ -22,9 +23,13 @@ use Rattle.audit_count.specs.Differences.{differences, settings, strays, bits, 
 abbrev pub shippedBase : List ℕ → List ℕ → ℕ
 shippedBase xs ys = le 4 ys (reading xs .H + 28)
 
--- what the shipped file is compared with: the vendor image, moved to that base
+-- what the shipped file is compared with: the vendor image, moved to that base; one of edition 1 as it is (request #109)
 unfoldable pub reference : List ℕ → List ℕ → List ℕ
-reference xs ys = moveTo xs (reading xs) (shippedBase xs ys)
+reference xs ys = cond (test (edition1 (reading xs))) xs (moveTo xs (reading xs) (shippedBase xs ys))
+
+-- the reading by which settings are told from strays: an edition 1 image has no settings part that is known
+unfoldable pub toldBy : List ℕ → Reading
+toldBy xs = cond (test (edition1 (reading xs))) (parted (reading xs) 0 0) (reading xs)
 
 -- every position where the shipped file differs from it
 unfoldable pub differing : List ℕ → List ℕ → List ℕ
@@ -43,7 +48,7 @@ carried number base t explained =
 -- 20 ROOM: as many places as differences; base and counts are told either way, and "explained" is said where there is room and no stray
 unfoldable pub tally : List ℕ → List ℕ → ℕ → Audited
 tally xs ys room =
-    let r = reading xs in
+    let r = toldBy xs in
     let ks = differing xs ys in
     let fits = settings r ks + strays r ks ≤? room in
     record {
@@ -65,12 +70,12 @@ auditing xs ys room =
 -- the list afterwards: the entries from its start on, and what it held after them; what it held where the audit is refused
 unfoldable pub listed : List ℕ → List ℕ → List ℕ → List ℕ
 listed xs ys places =
-    unlessRefused (auditing xs ys (length places) .number) (sets places 0 (entries (reading xs) (differing xs ys))) places
+    unlessRefused (auditing xs ys (length places) .number) (sets places 0 (entries (toldBy xs) (differing xs ys))) places
 
 -- the same of a list of bytes, in which four make a place
 unfoldable pub listedBytes : List ℕ → List ℕ → List ℕ → List ℕ
 listedBytes xs ys bytes =
-    unlessRefused (auditing xs ys (length bytes / 4) .number) (putAll 4 bytes 0 (entries (reading xs) (differing xs ys))) bytes
+    unlessRefused (auditing xs ys (length bytes / 4) .number) (putAll 4 bytes 0 (entries (toldBy xs) (differing xs ys))) bytes
 
 -- whether an answer is accepted and has anything to list
 abbrev pub listing : Audited → Fact

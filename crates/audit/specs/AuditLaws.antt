@@ -16,10 +16,11 @@ use Rattle.facts.specs.Rules.{Rules, rule, answer, run}
 use Rattle.facts.specs.RulesLaws.{passed, by-test}
 use Rattle.words.specs.Put.{putAll}
 use Rattle.header.specs.Base.{legalBase}
-use Rattle.reading_rules.specs.Reading.{reading}
+use Rattle.answers.specs.declared.Reading.{Reading}
+use Rattle.reading_rules.specs.Reading.{parted, edition1, reading, Older}
 use Rattle.answers.specs.After.{unlessRefused}
 use Rattle.answers.specs.AfterLaws.{after-accepted, after-refused, changed-so, kept-so}
-use Rattle.reading_rules.specs.Guarantee.{guaranteed}
+use Rattle.reading_rules.specs.Guarantee.{Later, Guaranteed, guaranteed, shared}
 use Rattle.reading_rules.specs.Numbers.{Numbered, OwnAudit}
 use Rattle.reading_rules.specs.NumbersLaws.{after-every, numbered-own, own-number, own-zero}
 use Rattle.moves.specs.Moves.{difference}
@@ -29,38 +30,93 @@ use Rattle.reading_rules.specs.WordsLaws.{widths}
 use Rattle.move_image.specs.Moving.{moveTo}
 use Rattle.answers.specs.declared.Audited.{Audited}
 use Rattle.audit_count.specs.declared.Counts.{Counts}
-use Rattle.audit_count.specs.Differences.{differences, settings, strays, bits, entries, countsOf}
-use Rattle.audit.specs.Audit.{shippedBase, reference, differing, refusedAudit, carried, tally, auditing, listed, listedBytes, listing}
+use Rattle.audit_count.specs.Differences.{differences, setting, entry, settings, strays, bits, entries, countsOf}
+use Rattle.audit_plain.specs.Plain.{strayed}
+use Rattle.audit_plain.specs.PlainLaws.{no-settings, only-strays, no-bits, stray-entries, stray-counts}
+use Rattle.audit.specs.Audit.{shippedBase, reference, toldBy, differing, refusedAudit, carried, tally, auditing, listed, listedBytes, listing}
 use Rattle.audit_step.specs.Stride.{by}
-use Rattle.audit_count.specs.DifferenceLaws.{counts}
+use Rattle.audit_count.specs.DifferenceLaws.{counts, few}
 
--- the reference, as the walk moves each word
-pub by-reference : (xs ys : List ℕ) (four eight : ℕ) → reading xs .number ≡ 0
-    → four ≡ difference (reading xs .base) (shippedBase xs ys) 4 → eight ≡ difference (reading xs .base) (shippedBase xs ys) 8
-    → by xs (reading xs) four eight ≡ reference xs ys
-unfolding reference moveTo
-by-reference xs ys four eight ok e f =
-    rw (e, f)
-    (moved-by-width xs (wordsOf xs (reading xs)) (difference (reading xs .base) (shippedBase xs ys))
-    (widths xs (reading xs) (guaranteed xs ok)))
+-- ---- by the edition
+
+-- the two files are a pair: the vendor's reading is r and accepted, they are of one length, and the shipped base is legal
+abbrev pub Paired : List ℕ → List ℕ → Reading → ℕ → Type 0
+Paired xs ys r base =
+    (r ≡ reading xs) × (reading xs .number ≡ 0) × (length ys ≡ length xs) × (base ≡ shippedBase xs ys)
+    × Holds (legalBase (length xs) base)
+
+module _ (xs ys : List ℕ) where
+  not-older : Later xs → Older xs → ⊥
+  not-older later old = omega (arith, later .1, old .1)
+
+  pub later-told : Later xs → toldBy xs ≡ reading xs
+  unfolding toldBy
+  later-told later = rw (fails (edition1 (reading xs)) (not-older later))
+
+  pub later-reference : Later xs → reference xs ys ≡ moveTo xs (reading xs) (shippedBase xs ys)
+  unfolding reference
+  later-reference later = rw (fails (edition1 (reading xs)) (not-older later))
+
+  pub older-told : Older xs → toldBy xs ≡ parted (reading xs) 0 0
+  unfolding toldBy
+  older-told old = rw (passes (edition1 (reading xs)) old)
+
+  pub older-reference : Older xs → reference xs ys ≡ xs
+  unfolding reference
+  older-reference old = rw (passes (edition1 (reading xs)) old)
+
+  pub older-settings : Older xs → (ks : List ℕ) → settings (toldBy xs) ks ≡ 0
+  older-settings old ks = rw (older-told old) (no-settings (parted (reading xs) 0 0) refl refl ks)
+
+  pub older-strays : Older xs → (ks : List ℕ) → strays (toldBy xs) ks ≡ length ks
+  older-strays old ks = rw (older-told old) (only-strays (parted (reading xs) 0 0) refl refl ks)
+
+  pub older-bits : Older xs → (a b ks : List ℕ) → bits a b (toldBy xs) ks ≡ 0
+  older-bits old a b ks = rw (older-told old) (no-bits (parted (reading xs) 0 0) refl refl a b ks)
+
+  pub older-entry : Older xs → (k : ℕ) → entry (toldBy xs) k ≡ k + 16777216
+  unfolding entry
+  older-entry old k =
+      rw (older-told old, fails (setting (parted (reading xs) 0 0) k) (λ h. omega (arith, h .0, h .1)))
+
+  -- what of an edition 1 image is counted and listed: every difference, as a stray
+  pub older-counts : Older xs
+      → countsOf (reference xs ys) ys (toldBy xs) ≡ record { settings = 0; strays = length (differences xs ys 0 (length ys)); bits = 0 }
+  older-counts old =
+      ap (λ (l : List ℕ). countsOf l ys (toldBy xs)) (older-reference old) ∙ ap (λ (r : Reading). countsOf xs ys r) (older-told old)
+      ∙ stray-counts (parted (reading xs) 0 0) refl refl xs ys
+
+  pub older-entries : Older xs → (ks : List ℕ) → entries (toldBy xs) ks ≡ strayed ks
+  older-entries old ks =
+      ap (λ (r : Reading). entries r ks) (older-told old) ∙ stray-entries (parted (reading xs) 0 0) refl refl ks
+
+  -- of one of edition 2: the reference, as the walk moves each word
+  pub by-reference : (four eight : ℕ) → Later xs → four ≡ difference (reading xs .base) (shippedBase xs ys) 4
+      → eight ≡ difference (reading xs .base) (shippedBase xs ys) 8 → by xs (reading xs) four eight ≡ reference xs ys
+  unfolding moveTo
+  by-reference four eight later e f =
+      rw (e, f)
+      (moved-by-width xs (wordsOf xs (reading xs)) (difference (reading xs .base) (shippedBase xs ys))
+      (widths xs (reading xs) (guaranteed xs later)))
+      ∙ sym (later-reference later)
 
 module _ (xs ys : List ℕ) (room : ℕ) (t : Counts) (long : length ys ≡ length xs)
-    (totals : t ≡ countsOf (reference xs ys) ys (reading xs)) where
-  pub all-settings : settings (reading xs) (differing xs ys) ≡ t .settings
+    (totals : t ≡ countsOf (reference xs ys) ys (toldBy xs)) where
+  pub all-settings : settings (toldBy xs) (differing xs ys) ≡ t .settings
   unfolding differing countsOf
   all-settings = rw (← long) (sym (ap (λ (q : Counts). q .settings) totals))
 
-  pub all-strays : strays (reading xs) (differing xs ys) ≡ t .strays
+  pub all-strays : strays (toldBy xs) (differing xs ys) ≡ t .strays
   unfolding differing countsOf
   all-strays = rw (← long) (sym (ap (λ (q : Counts). q .strays) totals))
 
-  all-bits : bits (reference xs ys) ys (reading xs) (differing xs ys) ≡ t .bits
+  all-bits : bits (reference xs ys) ys (toldBy xs) (differing xs ys) ≡ t .bits
   unfolding differing countsOf
   all-bits = rw (← long) (sym (ap (λ (q : Counts). q .bits) totals))
 
   -- as many as there are differences
   pub how-many : t .settings + t .strays ≡ length (differing xs ys)
-  how-many = rw (← all-settings, ← all-strays) (counts (reading xs) (differing xs ys))
+  how-many = rw (← all-settings, ← all-strays) (counts (toldBy xs) (differing xs ys))
 
   pub tally-fits : t .settings + t .strays ≤ room → tally xs ys room ≡ carried 0 (shippedBase xs ys) t (eqb (t .strays) 0)
   unfolding tally test
@@ -69,6 +125,65 @@ module _ (xs ys : List ℕ) (room : ℕ) (t : Counts) (long : length ys ≡ leng
   pub tally-full : room < t .settings + t .strays → tally xs ys room ≡ carried 20 (shippedBase xs ys) t false
   unfolding tally test
   tally-full h = rw (all-settings, all-strays, all-bits, lt-leb (t .settings + t .strays) room h)
+
+-- there are no more than positions
+pub all-few : (xs ys : List ℕ) → length (differing xs ys) ≤ length xs
+unfolding differing
+all-few xs ys = few (reference xs ys) ys 0 (length xs)
+
+-- ---- what a pair gives to what counts and lists, by the component of its reading
+
+module _ (xs ys : List ℕ) (r : Reading) (base : ℕ) (pair : Paired xs ys r base) where
+  -- both bases are words
+  pub pair-small : (r .base < 2 ^ 32) × (base < 2 ^ 32)
+  pair-small =
+      let g = shared xs (pair .1) in
+      let legal : Holds (legalBase (length xs) (r .base)) = rw (pair .0) (g .legal) in
+      (omega (arith, legal, g .length-least), omega (arith, pair .4, g .length-least))
+
+  pub pair-long : length xs ≤ 16777216
+  pair-long = shared xs (pair .1) .length-most
+
+  module _ (none : r .component ≡ 0) where
+    older : Older xs
+    older = (pair .1, rw (pair .0) at none)
+
+    pub pair-counted : countsOf (reference xs ys) ys (toldBy xs)
+        ≡ record { settings = 0; strays = length (differences xs ys 0 (length ys)); bits = 0 }
+    pair-counted = older-counts xs ys older
+
+    pub pair-differing : differences xs ys 0 (length ys) ≡ differing xs ys
+    unfolding differing
+    pair-differing = rw (older-reference xs ys older, pair .2)
+
+    pub pair-strays : strayed (differences xs ys 0 (length ys)) ≡ entries (toldBy xs) (differing xs ys)
+    pair-strays = ap (λ (ks : List ℕ). strayed ks) pair-differing ∙ sym (older-entries xs ys older (differing xs ys))
+
+  module _ (some : r .component ≡ 0 → ⊥) where
+    later : Later xs
+    later = let one : 1 ≤ r .component = omega (arith, some) in (pair .1, rw (pair .0) at one)
+
+    pub pair-guaranteed : Guaranteed xs r
+    pair-guaranteed = rw (pair .0) (guaranteed xs later)
+
+    module _ (four eight : ℕ) (four-is : four ≡ difference (r .base) base 4) (eight-is : eight ≡ difference (r .base) base 8) where
+      moved-so : by xs r four eight ≡ reference xs ys
+      moved-so =
+          ap (λ (q : Reading). by xs q four eight) (pair .0)
+          ∙ by-reference xs ys four eight later (rw (pair .0, pair .3) at four-is) (rw (pair .0, pair .3) at eight-is)
+
+      told-so : toldBy xs ≡ r
+      told-so = later-told xs ys later ∙ sym (pair .0)
+
+      pub pair-walked : differences (by xs r four eight) ys 0 (length ys) ≡ differing xs ys
+      unfolding differing
+      pair-walked = rw (moved-so, pair .2)
+
+      pub pair-counts : countsOf (by xs r four eight) ys r ≡ countsOf (reference xs ys) ys (toldBy xs)
+      pair-counts = rw (moved-so, told-so)
+
+      pub pair-entries : entries r (differences (by xs r four eight) ys 0 (length ys)) ≡ entries (toldBy xs) (differing xs ys)
+      pair-entries = rw (pair-walked, told-so)
 
 empty : (l : List ℕ) → length l ≡ 0 → l ≡ []
 empty [] e = refl
@@ -131,22 +246,16 @@ module _ (xs ys : List ℕ) (room : ℕ) where
     fits =
         let ks = differing xs ys in
         let e : tally xs ys room .number ≡ 0 = ap (λ (a : Audited). a .number) (sym (audit-accepted ok .told)) ∙ ok in
-        by-test (λ (k : ℕ). k ≡ 0 → length ks ≤ room) (settings (reading xs) ks + strays (reading xs) ks ≤? room) 0 20
-        (λ h z. omega (arith, h, counts (reading xs) ks)) (λ h z. absurd (omega arith)) e
+        by-test (λ (k : ℕ). k ≡ 0 → length ks ≤ room) (settings (toldBy xs) ks + strays (toldBy xs) ks ≤? room) 0 20
+        (λ h z. omega (arith, h, counts (toldBy xs) ks)) (λ h z. absurd (omega arith)) e
 
-    -- both bases are words
-    pub small : (reading xs .base < 2 ^ 32) × (auditing xs ys room .base < 2 ^ 32)
-    small =
-        let g = guaranteed xs (audit-accepted ok .read) in
-        (omega (arith, g .legal, g .length-least), rw names (omega (arith, audit-accepted ok .legal, g .length-least)))
-
-    -- what is walked is what differs
-    pub walked : (four eight : ℕ) → four ≡ difference (reading xs .base) (auditing xs ys room .base) 4
-        → eight ≡ difference (reading xs .base) (auditing xs ys room .base) 8
-        → differences (by xs (reading xs) four eight) ys 0 (length ys) ≡ differing xs ys
-    unfolding differing
-    walked four eight e f =
-        rw (by-reference xs ys four eight (audit-accepted ok .read) (rw names at e) (rw names at f), audit-accepted ok .paired)
+  -- an accepted audit is of such a pair
+  pub accepted-pair : (r : Reading) (base : ℕ) → r ≡ reading xs → base ≡ auditing xs ys room .base → auditing xs ys room .number ≡ 0
+      → Paired xs ys r base
+  accepted-pair r base e f ok =
+      let h = audit-accepted ok in
+      let is : base ≡ shippedBase xs ys = f ∙ names ok in
+      (e, h .read, h .paired, is, rw is (h .legal))
 
   -- an accepted audit that has nothing to list has found no difference
   none : auditing xs ys room .number ≡ 0 → (Holds (listing (auditing xs ys room)) → ⊥) → differing xs ys ≡ []
@@ -162,7 +271,7 @@ module _ (xs ys : List ℕ) (room : ℕ) where
                   empty (differing xs ys)
                   (omega (
                     arith,
-                    counts (reading xs) (differing xs ys),
+                    counts (toldBy xs) (differing xs ys),
                     ap (λ (a : Audited). a .settings) told,
                     ap
                         (λ (a : Audited). a .strays) told,
@@ -185,14 +294,14 @@ pub audit-numbered : (xs ys : List ℕ) (room : ℕ) → Numbered xs OwnAudit (a
 unfolding auditing tally
 audit-numbered xs ys room =
     let own-one = own-number xs OwnAudit in
-    after-every refusedAudit (λ (a : Audited). Numbered xs OwnAudit (a .number) (a .index)) xs _ (λ h. numbered-own xs OwnAudit)
+    after-every refusedAudit (λ (a : Audited). Numbered xs OwnAudit (a .number) (a .index)) (reading xs) _ (λ h. numbered-own xs OwnAudit)
     (λ ok. (
       (λ h. own-one 19 (omega arith, omega arith)),
       λ h. (
         (λ h. own-one 18 (omega arith, omega arith)),
         λ h.
             by-test (λ (k : ℕ). Numbered xs OwnAudit k 0)
-            (settings (reading xs) (differing xs ys) + strays (reading xs) (differing xs ys) ≤? room) 0 20
+            (settings (toldBy xs) (differing xs ys) + strays (toldBy xs) (differing xs ys) ≤? room) 0 20
             (λ e. own-zero xs OwnAudit) (λ e. own-one 20 (omega arith, omega arith)),
       ),
     ))
@@ -201,9 +310,9 @@ audit-numbered xs ys room =
 pub list-kept : (xs ys places : List ℕ) → (auditing xs ys (length places) .number ≡ 0 → ⊥) → listed xs ys places ≡ places
 unfolding listed
 list-kept xs ys places h =
-    kept-so (auditing xs ys (length places) .number) (sets places 0 (entries (reading xs) (differing xs ys))) places h
+    kept-so (auditing xs ys (length places) .number) (sets places 0 (entries (toldBy xs) (differing xs ys))) places h
 
 pub bytes-kept : (xs ys bytes : List ℕ) → (auditing xs ys (length bytes / 4) .number ≡ 0 → ⊥) → listedBytes xs ys bytes ≡ bytes
 unfolding listedBytes
 bytes-kept xs ys bytes h =
-    kept-so (auditing xs ys (length bytes / 4) .number) (putAll 4 bytes 0 (entries (reading xs) (differing xs ys))) bytes h
+    kept-so (auditing xs ys (length bytes / 4) .number) (putAll 4 bytes 0 (entries (toldBy xs) (differing xs ys))) bytes h

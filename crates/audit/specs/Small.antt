@@ -19,8 +19,10 @@ use Rattle.move_image.specs.Moving.{moveTo, movedImage}
 use Rattle.move_image.specs.Small.{small-moved}
 use Rattle.audit_count.specs.Differences.{differences, settings, strays, bits, flips, entry, entries}
 use Rattle.answers.specs.declared.Audited.{Audited}
-use Rattle.audit.specs.Audit.{shippedBase, reference, differing, tally, auditing, listed}
-use Rattle.audit.specs.AuditLaws.{audit-told}
+use Rattle.reading_rules.specs.Guarantee.{Later}
+use Rattle.reading_rules.specs.Edition.{later-same}
+use Rattle.audit.specs.Audit.{shippedBase, reference, toldBy, differing, tally, auditing, listed}
+use Rattle.audit.specs.AuditLaws.{later-told, later-reference, audit-told}
 
 abbrev maker : List ℕ
 maker = small 0xFFF80000 0xFFF80040 (settingBytes 0 1)
@@ -51,6 +53,13 @@ r =
       E = 188;
     }
 
+-- it is of edition 2
+small-later : Later maker
+small-later = (ap (λ (q : Reading). q .number) small-reads, rw small-reads (omega arith))
+
+small-told-by : toldBy maker ≡ r
+small-told-by = later-told maker maker small-later ∙ small-reads
+
 -- ---- one audit of ys: its base is 0x00100000, and ks are the positions that differ
 
 module _ (ys : List ℕ) (long : length ys ≡ 360) (base : le 4 ys 128 ≡ 0x00100000) where
@@ -62,8 +71,10 @@ module _ (ys : List ℕ) (long : length ys ≡ 360) (base : le 4 ys 128 ≡ 0x00
   word = ap (λ (q : Reading). le 4 ys (q .H + 28)) small-reads ∙ base
 
   pub small-reference : reference maker ys ≡ moved
-  unfolding reference movedImage
-  small-reference = ap (λ (b : ℕ). moveTo maker (reading maker) b) word ∙ small-moved
+  unfolding movedImage
+  small-reference =
+      later-reference maker ys small-later ∙ ap (λ (b : ℕ). moveTo maker (reading maker) b) word
+      ∙ ap (λ (q : Reading). moveTo maker q 0x00100000) (sym (later-same maker small-later)) ∙ small-moved
 
   module _ (ks : List ℕ) (are : differences moved ys 0 360 ≡ ks) (room : ℕ) where
     found : differing maker ys ≡ ks
@@ -88,7 +99,7 @@ module _ (ys : List ℕ) (long : length ys ≡ 360) (base : le 4 ys 128 ≡ 0x00
     unfolding tally
     small-told =
         audit-told maker ys room (ap (λ (q : Reading). q .number) small-reads) (long ∙ sym size) (rw (word, size) (refl, omega arith))
-        ∙ ap (λ (q : Reading). answer q (differing maker ys) (shippedBase maker ys) (reference maker ys)) small-reads
+        ∙ ap (λ (q : Reading). answer q (differing maker ys) (shippedBase maker ys) (reference maker ys)) small-told-by
         ∙ ap (λ (l : List ℕ). answer r l (shippedBase maker ys) (reference maker ys)) found
         ∙ ap (λ (b : ℕ). answer r ks b (reference maker ys)) word
         ∙ ap (λ (l : List ℕ). answer r ks 0x00100000 l) small-reference
@@ -125,9 +136,9 @@ places = 9 ∷ 9 ∷ 9 ∷ []
 pub small-list : listed maker shipped places ≡ 16777221 ∷ 256 ∷ 257 ∷ []
 unfolding test entry entries listed
 small-list =
-    changed-so (auditing maker shipped 3 .number) (sets places 0 (entries (reading maker) (differing maker shipped))) places
+    changed-so (auditing maker shipped 3 .number) (sets places 0 (entries (toldBy maker) (differing maker shipped))) places
     (ap (λ (a : Audited). a .number) small-audit)
-    ∙ ap (λ (q : Reading). sets places 0 (entries q (differing maker shipped))) small-reads
+    ∙ ap (λ (q : Reading). sets places 0 (entries q (differing maker shipped))) small-told-by
     ∙ ap (λ (l : List ℕ). sets places 0 (entries r l)) (found shipped long base (5 ∷ 256 ∷ 257 ∷ []) differ-there 3)
 
 -- ---- without the stray

@@ -12,7 +12,7 @@ use Rattle.words.specs.Put.{putAll}
 use Rattle.items.specs.declared.Item.{Item}
 use Rattle.inside_judge.specs.Rules.{patchItems}
 use Rattle.answers.specs.declared.Reading.{Reading}
-use Rattle.reading_rules.specs.Reading.{entriesAt, fileAt, reading}
+use Rattle.reading_rules.specs.Reading.{entriesAt, fileAt, reading2}
 use Rattle.answers.specs.After.{afterReading, unlessRefused}
 use Rattle.inside_list.specs.declared.Counts.{Counts}
 use Rattle.inside_list.specs.Inventory.{entry, inventory, countsOf}
@@ -33,7 +33,7 @@ entriesFor xs r = tableEntries xs r ++ inventory xs (le 8 xs 32) (fileAt r)
 
 -- the list of an image that reads
 unfoldable pub listing : List ℕ → List ℕ
-listing xs = entriesFor xs (reading xs)
+listing xs = entriesFor xs (reading2 xs)
 
 -- a refusal other than 20: its number and index, all else zero
 abbrev pub refusedList : ℕ → ℕ → Listed
@@ -46,7 +46,7 @@ counted number n = record { number = number; index = 0; modules = n .modules; wo
 -- the image's refusals, then 20 ROOM: the list has four bytes for each entry; the counts are told either way
 unfoldable pub contents : List ℕ → ℕ → Listed
 contents xs room =
-    afterReading refusedList (reading xs)
+    afterReading refusedList (reading2 xs)
     (answer (counted (cond (test (4 * length (listing xs) ≤? room)) 0 20) (countsOf (listing xs))))
 
 -- the list afterwards: the entries from its start on, four bytes each, and what it held after them; what it held where the call is refused

@@ -18,9 +18,10 @@ use Rattle.items.specs.Items.{word, wordsIn}
 use Rattle.inside_judge.specs.Rules.{patchFrom, patchItems}
 use Rattle.inside_judge.specs.RulesLaws.{patches-count}
 use Rattle.answers.specs.declared.Reading.{Reading}
-use Rattle.reading_rules.specs.Reading.{entriesAt, fileAt, wordAt, reading, Read}
+use Rattle.reading_rules.specs.Reading.{entriesAt, fileAt, wordAt, reading2, Read2}
 use Rattle.answers.specs.AfterLaws.{after-accepted, after-refused}
-use Rattle.reading_rules.specs.Guarantee.{Guaranteed, guaranteed}
+use Rattle.reading_rules.specs.Guarantee.{Guaranteed}
+use Rattle.reading_rules.specs.Edition.{guaranteed}
 use Rattle.reading_rules.specs.Words.{met, wordsOf}
 use Rattle.move_image.specs.Fixed.{fixed}
 use Rattle.move_image.specs.MovingLaws.{words-split}
@@ -129,14 +130,14 @@ module _ (xs : List ℕ) (room : ℕ) where
   abbrev own : Rules Listed
   own = answer (counted (cond (test (4 * length (listing xs) ≤? room)) 0 20) (countsOf (listing xs)))
 
-  pub list-unread : (Read xs → ⊥) → contents xs room ≡ refusedList (reading xs .number) (reading xs .index)
+  pub list-unread : (Read2 xs → ⊥) → contents xs room ≡ refusedList (reading2 xs .number) (reading2 xs .index)
   unfolding contents
-  list-unread h = after-refused refusedList (reading xs) own h
+  list-unread h = after-refused refusedList (reading2 xs) own h
 
-  module _ (ok : Read xs) where
+  module _ (ok : Read2 xs) where
     judged : contents xs room ≡ counted (cond (test (4 * length (listing xs) ≤? room)) 0 20) (countsOf (listing xs))
     unfolding contents run
-    judged = after-accepted refusedList (reading xs) own ok
+    judged = after-accepted refusedList (reading2 xs) own ok
 
     module _ (n : Counts) (totals : n ≡ countsOf (listing xs)) where
       pub list-full : room < 4 * n .entries → contents xs room ≡ counted 20 n
@@ -150,9 +151,9 @@ module _ (xs : List ℕ) (room : ℕ) where
           judged ∙ rw (passes (4 * length (listing xs) ≤? room) (omega arith)) (ap (λ (q : Counts). counted 0 q) (sym totals))
 
   -- what an accepted call has passed
-  pub list-accepted : contents xs room .number ≡ 0 → Read xs × (4 * length (listing xs) ≤ room)
+  pub list-accepted : contents xs room .number ≡ 0 → Read2 xs × (4 * length (listing xs) ≤ room)
   list-accepted e =
-      elim (ℕ-discrete (reading xs .number) 0) [
+      elim (ℕ-discrete (reading2 xs .number) 0) [
         | no h ↦ absurd (h (ap (λ (a : Listed). a .number) (sym (list-unread h)) ∙ e))
         | yes ok ↦ (
           ok,
@@ -162,18 +163,18 @@ module _ (xs : List ℕ) (room : ℕ) where
       ]
 
 -- the words of the list of an image that reads are the words of its move, and as many are counted
-pub listed-words : (xs : List ℕ) → Read xs → wordsFrom (listing xs) ≡ wordsIn (met xs (reading xs))
+pub listed-words : (xs : List ℕ) → Read2 xs → wordsFrom (listing xs) ≡ wordsIn (met xs (reading2 xs))
 unfolding listing
-listed-words xs ok = words-listed xs (reading xs) (guaranteed xs ok)
+listed-words xs ok = words-listed xs (reading2 xs) (guaranteed xs ok)
 
-pub words-counted : (xs : List ℕ) (room : ℕ) → Read xs → contents xs room .words ≡ wordsOf xs (reading xs) .count
+pub words-counted : (xs : List ℕ) (room : ℕ) → Read2 xs → contents xs room .words ≡ wordsOf xs (reading2 xs) .count
 words-counted xs room ok = ap (λ (a : Listed). a .words) (judged xs room ok) ∙ ap length (listed-words xs ok)
 
 -- no count is near 2^64
-pub counts-few : (xs : List ℕ) → Bytes xs → Read xs
+pub counts-few : (xs : List ℕ) → Bytes xs → Read2 xs
     → let n = countsOf (listing xs) in
     (n .modules ≤ 576460752303424513) × (n .words ≤ 576460752303424513) × (n .entries ≤ 576460752303424513)
 unfolding listing
 counts-few xs bytes ok =
-    let few = entries-small xs (reading xs) (guaranteed xs ok) bytes in
+    let few = entries-small xs (reading2 xs) (guaranteed xs ok) bytes in
     (omega (arith, few, places-less 2 (listing xs)), omega (arith, few, from-less (listing xs)), few)

@@ -21,7 +21,7 @@ use Rattle.inside_judge.specs.Rules.{patchFrom}
 use Rattle.answers.specs.declared.Reading.{Reading}
 use Rattle.answers.specs.After.{afterReading}
 use Rattle.facts.specs.Rules.{run}
-use Rattle.reading_rules.specs.Small.{small, settingBytes, smallReading, small-reads}
+use Rattle.reading_rules.specs.Small.{small, settingBytes, smallReading, small-reads-2}
 use Rattle.inside_list.specs.Inventory.{entry, wordEntries, moduleEntries, fileOf, entriesOf, inventory, placesOf, widthOf, wordsFrom}
 use Rattle.contents.specs.Listing.{coded, entriesFor, listing, contents}
 
@@ -39,13 +39,13 @@ entries-small = refl
 
 pub small-list : listing maker ≡ smallList
 unfolding listing
-small-list = ap (λ (r : Reading). entriesFor maker r) small-reads ∙ entries-small
+small-list = ap (λ (r : Reading). entriesFor maker r) small-reads-2 ∙ entries-small
 
 -- with 24 bytes it is listed; with 23 it isn't, and the counts are told
 pub small-contents : contents maker 24 ≡ record { number = 0; index = 0; modules = 1; words = 4; entries = 6 }
 unfolding contents afterReading run test placesOf widthOf wordsFrom
-small-contents = rw (small-reads, small-list)
+small-contents = rw (small-reads-2, small-list)
 
 pub small-room : contents maker 23 ≡ record { number = 20; index = 0; modules = 1; words = 4; entries = 6 }
 unfolding contents afterReading run test placesOf widthOf wordsFrom
-small-room = rw (small-reads, small-list)
+small-room = rw (small-reads-2, small-list)

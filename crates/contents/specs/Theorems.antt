@@ -3,6 +3,7 @@
 use Prim.{tt}
 use Prim.Native.Nat.{ℕ, zero, suc, _+_, _*_, _≤_, _<_}
 use mathlib.Core.List.{List}
+use mathlib.Core.Logic.{inl, inr}
 use mathlib.Core.Path.{_≡_, refl, sym, _∙_}
 use native.Mathlib.Omega.{arith}
 use native.Mathlib.Nat.{mod-eq-of-lt}
@@ -14,11 +15,12 @@ use Rattle.words.specs.Put.{putAll}
 use Rattle.words.specs.PutLaws.{putAll-above, le-putAll}
 use Rattle.inside_judge.specs.Rules.{patchFrom}
 use Rattle.answers.specs.declared.Reading.{Reading}
-use Rattle.reading_rules.specs.Reading.{entriesAt, fileAt, reading, Read}
-use Rattle.reading_rules.specs.Guarantee.{Guaranteed, guaranteed}
+use Rattle.reading_rules.specs.Reading.{entriesAt, fileAt, reading2, Read2}
+use Rattle.reading_rules.specs.Guarantee.{Guaranteed}
+use Rattle.reading_rules.specs.Edition.{guaranteed}
 use Rattle.answers.specs.AfterLaws.{changed-so, kept-so}
 use Rattle.reading_rules.specs.Numbers.{Numbered, OwnList}
-use Rattle.reading_rules.specs.NumbersLaws.{after-every, numbered-own, own-number, own-zero}
+use Rattle.reading_rules.specs.NumbersLaws.{after-every, numbered-own2, own-number, own-zero}
 use Rattle.inside_list.specs.Inventory.{inventory}
 use Rattle.inside_list.specs.Narrow.{Narrow, narrow-at, narrow-join, inventory-narrow}
 use Rattle.answers.specs.declared.Listed.{Listed}
@@ -32,9 +34,9 @@ one-listing xs bytes a b l m (p, q) (s, t) = (p ∙ sym s, q ∙ sym t)
 pub listing-numbered : (xs : List ℕ) (room : ℕ) → Numbered xs OwnList (contents xs room .number) (contents xs room .index)
 unfolding contents
 listing-numbered xs room =
-    after-every refusedList (λ (a : Listed). Numbered xs OwnList (a .number) (a .index)) xs _ (λ h. numbered-own xs OwnList)
+    after-every refusedList (λ (a : Listed). Numbered xs OwnList (a .number) (a .index)) (reading2 xs) _ (λ h. numbered-own2 xs OwnList (inl refl))
     (λ ok. by-test (λ (k : ℕ). Numbered xs OwnList k 0) (4 * length (listing xs) ≤? room) 0 20 (λ e. own-zero xs OwnList)
-    (λ e. own-number xs OwnList 20 refl))
+    (λ e. own-number xs OwnList 20 (inr refl)))
 
 -- a refused call changes no byte of the list
 pub contents-kept : (xs bytes : List ℕ) → (contents xs (length bytes) .number ≡ 0 → ⊥) → contentsIn xs bytes ≡ bytes
@@ -50,10 +52,10 @@ coded-narrow xs r g i zero h = tt
 coded-narrow xs r g i (suc k) h =
     (omega (arith, g .word-within i (omega arith), g .length-most), coded-narrow xs r g (suc i) k (omega arith))
 
-listing-narrow : (xs : List ℕ) → Read xs → Narrow (listing xs)
+listing-narrow : (xs : List ℕ) → Read2 xs → Narrow (listing xs)
 unfolding listing entriesFor
 listing-narrow xs ok =
-    let r = reading xs in
+    let r = reading2 xs in
     let g = guaranteed xs ok in
     narrow-join (tableEntries xs r) (inventory xs (le 8 xs 32) (fileAt r)) (omega (arith, g), coded-narrow xs r g 0 (r .n) (omega arith))
     (inventory-narrow xs (le 8 xs 32) (fileAt r) (g .walkable))

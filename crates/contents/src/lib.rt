@@ -7,7 +7,7 @@ ghost use Prim.Native.Nat.{_+_, _*_, _≤_};
 ghost use lib.ListN.{length};
 ghost use Rattle.words.specs.Put.{putAll};
 ghost use Rattle.inside_judge.specs.Rules.{patchItems};
-ghost use Rattle.reading_rules.specs.Reading.{entriesAt, reading};
+ghost use Rattle.reading_rules.specs.Reading.{entriesAt, reading2};
 ghost use Rattle.reading_rules.specs.Guarantee.{Guaranteed};
 ghost use Rattle.inside_list.specs.Inventory.{countsOf};
 ghost use Rattle.contents.specs.Listing.{coded, entriesFor, refusedList, counted, contents, Lists};
@@ -53,7 +53,7 @@ fn count_all(image: &[u8], r: Reading) -> Counts
 
 // The whole answer for a list of `room` bytes, before anything is listed.
 fn survey(image: &[u8], r: Reading, room: usize) -> Listed
-    requires { ⌜ r ≡ reading (now image) ⌝ }
+    requires { ⌜ r ≡ reading2 (now image) ⌝ }
     ensures { λ a. ⌜ a ≡ contents (now (image .entry)) room ⌝ }
 {
     if r.number != 0 {
@@ -96,7 +96,7 @@ fn fill_all(image: &[u8], places: &mut [u8], r: Reading)
 pub fn list_contents(image: &[u8], places: &mut [u8]) -> Listed
     ensures { λ a. ⌜ Lists (now (image .entry)) (now (places .entry)) a (now (places .exit)) ⌝ }
 {
-    let r = reading::read(image);
+    let r = reading::read_2(image);
     let a = survey(image, r, places.len());
     if a.number != 0 {
         return a;

@@ -12,7 +12,7 @@ use Rattle.facts.specs.Rules.{run}
 use Rattle.facts.specs.RulesLaws.{by-test}
 use Rattle.words.specs.Le.{Bytes}
 use Rattle.header.specs.Base.{legalBase}
-use Rattle.reading_rules.specs.Reading.{reading, Read}
+use Rattle.reading_rules.specs.Reading.{Read, Older, Read2}
 use Rattle.reading_rules.specs.NumbersLaws.{numbered}
 use Rattle.answers.specs.declared.Moved.{Moved}
 use Rattle.sheet.specs.declared.SheetReading.{SheetReading}
@@ -25,17 +25,19 @@ use Rattle.release_laws.specs.Theorems.{release-numbered, released-fits, set-th
 use Rattle.contents.specs.Theorems.{listing-numbered, contents-kept}
 use Rattle.answers.specs.declared.Audited.{Audited}
 use Rattle.audit_count.specs.Differences.{entry}
-use Rattle.audit.specs.Audit.{shippedBase, differing, auditing}
-use Rattle.audit.specs.AuditLaws.{audit-numbered, list-kept, bytes-kept, Accepted, audit-accepted, names, fits}
+use Rattle.audit.specs.Audit.{shippedBase, reference, toldBy, differing, auditing}
+use Rattle.audit.specs.AuditLaws.{older-reference, older-settings, older-strays, older-bits, older-entry, audit-numbered, list-kept, bytes-kept, Accepted, audit-accepted, names, fits}
 use Rattle.demands.specs.Made.{Made, start, then}
 use Rattle.demands.specs.MadeLaws.{made-explains}
 use Rattle.demands.specs.Always.{made-explained}
 use Rattle.demands.specs.Makes.{Makes}
 use Rattle.demands.specs.MakesLaws.{explains-made}
+use Rattle.demands.specs.Editions.{read-too, told-two, reference-two}
+use Rattle.demands.specs.Nowhere.{plain-equal}
 use Rattle.demands.specs.Explained.{explained-shows, ascending, differs-at, all-listed, told-always, told-number, told-short, turned}
 use Rattle.demands.specs.Stored.{Store, inPlaces, inBytes}
 use Rattle.demands.specs.StoredLaws.{length-listed, place-is, place-kept, length-listed-bytes, bytes-are, byte-kept}
-use Rattle.demands.specs.Demands.{Audited-right, Chain-one, Demand1, Demand2, Demand2-accepted, Demand3, Explained-released}
+use Rattle.demands.specs.Demands.{Audited-right, Explained-right, Plain-right, Chain-one, Demand1, Demand2, Demand2-accepted, Demand3, Demand3-older, Explained-released}
 
 -- ---- they hold
 
@@ -81,15 +83,15 @@ demand-2-accepted xs s base o owner r ys (answer, image) = (
 )
 
 -- demand 3 of any way to store entries, by what a call leaves in its list
-module _ (st : Store) (xs ys before : List ℕ) (a : Audited) (l : List ℕ) (b : Bytes xs) (ok : Read xs) (long : length ys ≡ length xs)
+module _ (st : Store) (xs ys before : List ℕ) (a : Audited) (l : List ℕ) (b : Bytes xs) (long : length ys ≡ length xs)
     (legal : Holds (legalBase (length xs) (shippedBase xs ys))) (answer : a ≡ auditing xs ys (st .room before))
     (marked : auditing xs ys (st .room before) .number ≡ 0 → (i : ℕ) → i < length (differing xs ys)
-    → st .entry l i ≡ entry (reading xs) (getD (differing xs ys) i 0))
+    → st .entry l i ≡ entry (toldBy xs) (getD (differing xs ys) i 0))
     (kept : auditing xs ys (st .room before) .number ≡ 0 → (i : ℕ) → st .size * length (differing xs ys) ≤ i
     → getD l i 0 ≡ getD before i 0)
     (as-long : length l ≡ length before) (unchanged : (auditing xs ys (st .room before) .number ≡ 0 → ⊥) → l ≡ before) where
-  audited-right : Audited-right st xs ys before a l (differing xs ys)
-  audited-right =
+  audited-right : Read xs → Audited-right st xs ys before a l (differing xs ys)
+  audited-right ok =
       let n = st .room before in
       let true-counts = told-always xs ys n ok long legal in
       record {
@@ -104,31 +106,85 @@ module _ (st : Store) (xs ys before : List ℕ) (a : Audited) (l : List ℕ) (b 
         marked = λ room. marked (told-number xs ys n ok long legal room);
         kept = λ room. kept (told-number xs ys n ok long legal room);
         long = as-long;
-        shown = λ room e. turned xs ys b ok n long legal room .0 (rw answer at e);
-        said = λ room base part t. rw answer (turned xs ys b ok n long legal room .1 base part t);
         short = λ room.
             let (number, explained) = told-short xs ys n ok long legal room in
             (rw answer number, rw answer explained, unchanged (λ z. omega arith));
+      }
+
+  explained-right : Read2 xs → Explained-right st xs ys before a (differing xs ys)
+  explained-right ok =
+      let n = st .room before in
+      record {
+        by-reading = told-two xs ys ok;
+        against = reference-two xs ys ok;
+        shown = λ room e. turned xs ys b ok n long legal room .0 (rw answer at e);
+        said = λ room base part t. rw answer (turned xs ys b ok n long legal room .1 base part t);
+      }
+
+  plain-right : Older xs → Plain-right st xs ys before a l (differing xs ys)
+  plain-right old =
+      let n = st .room before in
+      let true-counts = told-always xs ys n (old .0) long legal in
+      record {
+        against = older-reference xs ys old;
+        strays-all =
+            rw answer (
+              true-counts .1 ∙ older-settings xs ys old (differing xs ys),
+              true-counts .2 ∙ older-strays xs ys old (differing xs ys),
+              true-counts .3 ∙ older-bits xs ys old (reference xs ys) ys (differing xs ys),
+            );
+        as-strays = λ room i h.
+            marked (told-number xs ys n (old .0) long legal room) i h ∙ older-entry xs ys old (getD (differing xs ys) i 0);
+        shown = λ room e. plain-equal xs ys n old long legal room .0 (rw answer at e);
+        said = λ room e. rw answer (plain-equal xs ys n old long legal room .1 e);
       }
 
 pub demand-3 : Demand3
 demand-3 = (
   (λ xs ys places a l b ok long legal is. (
     differing xs ys,
-    audited-right inPlaces xs ys places a l b ok long legal (is .0) (λ z. rw (is .1) (place-is xs ys places z))
+    audited-right inPlaces xs ys places a l b long legal (is .0) (λ z. rw (is .1) (place-is xs ys places z))
         (λ z i h. rw (is .1) (place-kept xs ys places z i (omega arith))) (ap length (is .1) ∙ length-listed xs ys places)
-        (λ h. is .1 ∙ list-kept xs ys places h),
+        (λ h. is .1 ∙ list-kept xs ys places h) (read-too xs ys ok),
+    explained-right inPlaces xs ys places a l b long legal (is .0) (λ z. rw (is .1) (place-is xs ys places z))
+        (λ z i h. rw (is .1) (place-kept xs ys places z i (omega arith))) (ap length (is .1) ∙ length-listed xs ys places)
+        (λ h. is .1 ∙ list-kept xs ys places h) ok,
   )),
   (λ xs ys bytes a l b ok long legal is. (
     differing xs ys,
-    audited-right inBytes xs ys bytes a l b ok long legal (is .0) (λ z. rw (is .1) (bytes-are xs ys bytes z))
+    audited-right inBytes xs ys bytes a l b long legal (is .0) (λ z. rw (is .1) (bytes-are xs ys bytes z))
         (λ z. rw (is .1) (byte-kept xs ys bytes z)) (ap length (is .1) ∙ length-listed-bytes xs ys bytes)
-        (λ h. is .1 ∙ bytes-kept xs ys bytes h),
+        (λ h. is .1 ∙ bytes-kept xs ys bytes h) (read-too xs ys ok),
+    explained-right inBytes xs ys bytes a l b long legal (is .0) (λ z. rw (is .1) (bytes-are xs ys bytes z))
+        (λ z. rw (is .1) (byte-kept xs ys bytes z)) (ap length (is .1) ∙ length-listed-bytes xs ys bytes)
+        (λ h. is .1 ∙ bytes-kept xs ys bytes h) ok,
+  )),
+)
+
+pub demand-3-older : Demand3-older
+demand-3-older = (
+  (λ xs ys places a l b old long legal is. (
+    differing xs ys,
+    audited-right inPlaces xs ys places a l b long legal (is .0) (λ z. rw (is .1) (place-is xs ys places z))
+        (λ z i h. rw (is .1) (place-kept xs ys places z i (omega arith))) (ap length (is .1) ∙ length-listed xs ys places)
+        (λ h. is .1 ∙ list-kept xs ys places h) (old .0),
+    plain-right inPlaces xs ys places a l b long legal (is .0) (λ z. rw (is .1) (place-is xs ys places z))
+        (λ z i h. rw (is .1) (place-kept xs ys places z i (omega arith))) (ap length (is .1) ∙ length-listed xs ys places)
+        (λ h. is .1 ∙ list-kept xs ys places h) old,
+  )),
+  (λ xs ys bytes a l b old long legal is. (
+    differing xs ys,
+    audited-right inBytes xs ys bytes a l b long legal (is .0) (λ z. rw (is .1) (bytes-are xs ys bytes z))
+        (λ z. rw (is .1) (byte-kept xs ys bytes z)) (ap length (is .1) ∙ length-listed-bytes xs ys bytes)
+        (λ h. is .1 ∙ bytes-kept xs ys bytes h) (old .0),
+    plain-right inBytes xs ys bytes a l b long legal (is .0) (λ z. rw (is .1) (bytes-are xs ys bytes z))
+        (λ z. rw (is .1) (byte-kept xs ys bytes z)) (ap length (is .1) ∙ length-listed-bytes xs ys bytes)
+        (λ h. is .1 ∙ bytes-kept xs ys bytes h) old,
   )),
 )
 
 pub explained-released : Explained-released
-explained-released xs ys places a l bx by zero (answer, list) = (shown, said)
+explained-released xs ys places a l bx by read zero (answer, list) = (shown, said)
   where
     ok : auditing xs ys (length places) .number ≡ 0
     ok = sym (ap (λ (q : Audited). q .number) answer) ∙ zero
@@ -139,14 +195,14 @@ explained-released xs ys places a l bx by zero (answer, list) = (shown, said)
     shown : a .explained ≡ true → (s : List ℕ) × (o : List ℕ) × Makes xs ys (a .base) s o 1
     shown e =
         rw (answer, names xs ys (length places) ok)
-        (explains-made xs ys bx by (passed .read) (shippedBase xs ys)
-        (explained-shows xs ys bx (passed .read) (length places) (passed .paired) (passed .legal) (fits xs ys (length places) ok)
+        (explains-made xs ys bx by read (shippedBase xs ys)
+        (explained-shows xs ys bx read (length places) (passed .paired) (passed .legal) (fits xs ys (length places) ok)
         (rw answer at e)))
 
     said : (base : ℕ) (s o : List ℕ) (owner : ℕ) → Makes xs ys base s o owner → (a .explained ≡ true) × (a .base ≡ base)
     said base s o owner m =
         let made : Made xs ys base = rw (m .is) at (then start s base o owner (m .bytes) (m .goes)) in
-        rw answer (made-explained xs ys (length places) base (passed .read) bx made (fits xs ys (length places) ok))
+        rw answer (made-explained xs ys (length places) base read bx made (fits xs ys (length places) ok))
 
 pub chain-one : Chain-one
 chain-one xs zs base bx ok made =

@@ -4,13 +4,13 @@
 use Prim.Native.Nat.{ℕ, _*_, _/_}
 use mathlib.Core.List.{List}
 use lib.ListN.{length}
-use Rattle.facts.specs.Fact.{_≤?_, _≡?_}
+use Rattle.facts.specs.Fact.{_≤?_, _≡?_, deny}
 use Rattle.facts.specs.Rules.{Rules, answer, rule}
 use Rattle.facts.specs.Exactly.{Fails, Somewhere, Exact}
 use Rattle.header.specs.Base.{legalBase}
 use Rattle.answers.specs.declared.Reading.{Reading}
 use Rattle.answers.specs.ExactlyAfter.{FailsAfter}
-use Rattle.reading_rules.specs.Reading.{rules, reading, Reads}
+use Rattle.reading_rules.specs.Reading.{rules, reading, Reads, edition1, reading2}
 use Rattle.sheet.specs.declared.SheetReading.{SheetReading}
 use Rattle.sheet.specs.Sheet.{sheetFits}
 use Rattle.sheet.specs.ReadSheet.{ReadsSheet}
@@ -27,9 +27,13 @@ use Rattle.handoff_step.specs.Step.{stepRules, Steps}
 
 -- ---- the calls' own rules after those of the reading, as numbers and indices
 
+-- 28 READ-ONLY (request #109): what a call has that needs an edition 2 image, before its other rules
+abbrev pub editionRule : {A : Type 0} → List ℕ → Rules A → Rules A
+editionRule xs t = rule 28 (deny (edition1 (reading xs))) t
+
 -- a lookup: 17 FIELD
 abbrev pub lookupRules : List ℕ → ℕ → ℕ → Rules (ℕ × ℕ)
-lookupRules xs offset size = rule 17 (settingFits offset size (reading xs .z)) (answer (0, 0))
+lookupRules xs offset size = rule 17 (settingFits offset size (reading2 xs .z)) (answer (0, 0))
 
 -- an audit: 19 PAIR, 18 of the shipped base, 20 ROOM
 abbrev pub auditRules : List ℕ → List ℕ → ℕ → Rules (ℕ × ℕ)
@@ -52,17 +56,17 @@ module _ (xs : List ℕ) where
   ReadFails = Fails (rules xs)
 
   abbrev pub ReleaseFails : List ℕ → ℕ → List ℕ → ℕ → ℕ → ℕ → Type 0
-  ReleaseFails s base o owner = FailsAfter (rules xs) (reading xs) (releaseRules (reading xs) (length xs) s base o owner)
+  ReleaseFails s base o owner = FailsAfter (rules xs) (reading xs) (editionRule xs (releaseRules (reading2 xs) (length xs) s base o owner))
 
   -- the companion call gives the number alone
   abbrev pub LookupFails : ℕ → ℕ → ℕ → ℕ → Type 0
-  LookupFails offset size = Somewhere (FailsAfter (rules xs) (reading xs) (lookupRules xs offset size))
+  LookupFails offset size = Somewhere (FailsAfter (rules xs) (reading xs) (editionRule xs (lookupRules xs offset size)))
 
   abbrev pub AuditFails : List ℕ → ℕ → ℕ → ℕ → Type 0
   AuditFails ys room = FailsAfter (rules xs) (reading xs) (auditRules xs ys room)
 
   abbrev pub ListFails : ℕ → ℕ → ℕ → Type 0
-  ListFails room = FailsAfter (rules xs) (reading xs) (listRules xs room)
+  ListFails room = FailsAfter (rules xs) (reading xs) (editionRule xs (listRules xs room))
 
 -- ---- the statement
 

@@ -17,8 +17,8 @@ use Rattle.words.specs.Le.{le, Bytes}
 use Rattle.words.specs.LeLaws.{le-cong}
 use Rattle.header.specs.Base.{legalBase}
 use Rattle.answers.specs.declared.Reading.{Reading}
-use Rattle.reading_rules.specs.Reading.{reading, Read}
-use Rattle.reading_rules.specs.Guarantee.{guaranteed}
+use Rattle.reading_rules.specs.Reading.{reading2, Read2, Read}
+use Rattle.reading_rules.specs.Edition.{guaranteed}
 use Rattle.move_image.specs.Moving.{movedImage}
 use Rattle.release_steps.specs.MoveStep.{length-after, moved-reads}
 use Rattle.sheet_bodies.specs.PartLaws.{length-joined, joined-low, joined-mid, joined-high}
@@ -27,8 +27,9 @@ use Rattle.answers.specs.declared.Audited.{Audited}
 use Rattle.reading_rules.specs.Settings.{settingsAt, settingsSize, OutsideSettings}
 use Rattle.audit_count.specs.Differences.{agrees, differences, setting, settings, strays, bits}
 use Rattle.audit_count.specs.DifferenceLaws.{counts}
-use Rattle.audit.specs.Audit.{shippedBase, reference, differing, tally, auditing}
+use Rattle.audit.specs.Audit.{shippedBase, reference, toldBy, differing, tally, auditing}
 use Rattle.audit.specs.AuditLaws.{audit-told}
+use Rattle.demands.specs.Editions.{read-too, told-two, shipped-two, reference-two}
 use Rattle.demands.specs.Explains.{Turns, Explains}
 
 -- ---- the differing positions
@@ -132,10 +133,10 @@ module _ (r : Reading) where
 
 -- there is room for every difference, and there are no strays besides
 abbrev fitting : List ℕ → List ℕ → ℕ → Fact
-fitting xs ys room = settings (reading xs) (differing xs ys) + strays (reading xs) (differing xs ys) ≤? room
+fitting xs ys room = settings (toldBy xs) (differing xs ys) + strays (toldBy xs) (differing xs ys) ≤? room
 
 abbrev clean : List ℕ → List ℕ → ℕ → Fact
-clean xs ys room = fitting xs ys room and strays (reading xs) (differing xs ys) ≡? 0
+clean xs ys room = fitting xs ys room and strays (toldBy xs) (differing xs ys) ≡? 0
 
 module _ (xs ys : List ℕ) (n : ℕ) (ok : Read xs) (long : length ys ≡ length xs)
     (legal : Holds (legalBase (length xs) (shippedBase xs ys))) where
@@ -143,9 +144,9 @@ module _ (xs ys : List ℕ) (n : ℕ) (ok : Read xs) (long : length ys ≡ lengt
   told = audit-told xs ys n ok long legal
 
   -- what it counts, whether there is room or not
-  pub told-always : (auditing xs ys n .base ≡ shippedBase xs ys) × (auditing xs ys n .settings ≡ settings (reading xs) (differing xs ys))
-      × (auditing xs ys n .strays ≡ strays (reading xs) (differing xs ys)) ×
-      (auditing xs ys n .bits ≡ bits (reference xs ys) ys (reading xs) (differing xs ys))
+  pub told-always : (auditing xs ys n .base ≡ shippedBase xs ys) × (auditing xs ys n .settings ≡ settings (toldBy xs) (differing xs ys))
+      × (auditing xs ys n .strays ≡ strays (toldBy xs) (differing xs ys)) ×
+      (auditing xs ys n .bits ≡ bits (reference xs ys) ys (toldBy xs) (differing xs ys))
   unfolding tally
   told-always = (
     ap (λ (a : Audited). a .base) told,
@@ -169,10 +170,10 @@ module _ (xs ys : List ℕ) (n : ℕ) (ok : Read xs) (long : length ys ≡ lengt
     unfolding tally
     says-explained = ap (λ (a : Audited). a .explained) told
 
-    pub explained-strays : auditing xs ys n .explained ≡ true → strays (reading xs) (differing xs ys) ≡ 0
+    pub explained-strays : auditing xs ys n .explained ≡ true → strays (toldBy xs) (differing xs ys) ≡ 0
     explained-strays e = holds (clean xs ys n) (sym says-explained ∙ e) .1
 
-    pub strays-explained : strays (reading xs) (differing xs ys) ≡ 0 → auditing xs ys n .explained ≡ true
+    pub strays-explained : strays (toldBy xs) (differing xs ys) ≡ 0 → auditing xs ys n .explained ≡ true
     strays-explained z = says-explained ∙ passes (clean xs ys n) (fits, z)
 
   -- the answer of an audit without: 20, never explained
@@ -180,37 +181,37 @@ module _ (xs ys : List ℕ) (n : ℕ) (ok : Read xs) (long : length ys ≡ lengt
   unfolding tally
   told-short short =
       let p = fitting xs ys n in
-      let over : Holds p → ⊥ = λ h. omega (arith, counts (reading xs) (differing xs ys)) in (
+      let over : Holds p → ⊥ = λ h. omega (arith, counts (toldBy xs) (differing xs ys)) in (
         ap (λ (a : Audited). a .number) told ∙ rw (fails p over),
         ap (λ (a : Audited). a .explained) told ∙ fails (clean xs ys n) (λ h. over (h .0)),
       )
 
 -- ---- demand 3
 
-module _ (xs ys : List ℕ) (bytes : Bytes xs) (ok : Read xs) where
+module _ (xs ys : List ℕ) (bytes : Bytes xs) (ok : Read2 xs) where
   -- after a move the base word holds the new base
-  new-base : (base : ℕ) → Holds (legalBase (length xs) base) → le 4 (movedImage xs base) (reading xs .H + 28) ≡ base
+  new-base : (base : ℕ) → Holds (legalBase (length xs) base) → le 4 (movedImage xs base) (reading2 xs .H + 28) ≡ base
   new-base base legal =
       let reads = moved-reads xs bytes ok base legal in
-      let read : Read (movedImage xs base) = ap (λ (r : Reading). r .number) reads ∙ ok in
+      let read : Read2 (movedImage xs base) = ap (λ (r : Reading). r .number) reads ∙ ok in
       sym (rw reads at (guaranteed (movedImage xs base) read .base-is))
 
   -- so a pair is explained by no base but the shipped one
   pub explains-base : (base : ℕ) → Explains xs ys base → base ≡ shippedBase xs ys
   explains-base base ex =
-      let at = reading xs .H + 28 in
-      sym (le-cong 4 ys (movedImage xs base) at (record { same = λ j h. ex .same (at + j) (inl (omega (arith, guaranteed xs ok))) })
+      let at = reading2 xs .H + 28 in
+      sym (shipped-two xs ys ok ∙ le-cong 4 ys (movedImage xs base) at (record { same = λ j h. ex .same (at + j) (inl (omega (arith, guaranteed xs ok))) })
       ∙ new-base base (ex .legal))
 
   region : (base : ℕ) → Holds (legalBase (length xs) base)
-      → settingsAt (reading xs) + settingsSize (reading xs) ≤ length (movedImage xs base)
+      → settingsAt (reading2 xs) + settingsSize (reading2 xs) ≤ length (movedImage xs base)
   region base legal = rw (length-after xs bytes ok base legal) (omega (arith, guaranteed xs ok))
 
   -- what bytes a legal base and setting bytes leave
   pub turns-explains : (base : ℕ) (part : List ℕ) → Turns xs ys base part → Explains xs ys base
   turns-explains base part t =
-      let from = settingsAt (reading xs) in
-      let size = settingsSize (reading xs) in
+      let from = settingsAt (reading2 xs) in
+      let size = settingsSize (reading2 xs) in
       let fits = region base (t .legal) in
       record {
         legal = t .legal;
@@ -219,18 +220,18 @@ module _ (xs ys : List ℕ) (bytes : Bytes xs) (ok : Read xs) where
         same = λ k out. ap (λ (l : List ℕ). getD l k 0) (t .is) ∙ outside k out;
       }
     where
-      outside : (k : ℕ) → OutsideSettings (reading xs) k
-          → getD (joined (movedImage xs base) (settingsAt (reading xs)) (settingsSize (reading xs)) part) k 0
+      outside : (k : ℕ) → OutsideSettings (reading2 xs) k
+          → getD (joined (movedImage xs base) (settingsAt (reading2 xs)) (settingsSize (reading2 xs)) part) k 0
           ≡ getD (movedImage xs base) k 0
       outside k (inl h) =
-          joined-low (movedImage xs base) (settingsAt (reading xs)) (settingsSize (reading xs)) part (region base (t .legal)) (t .long) k h
+          joined-low (movedImage xs base) (settingsAt (reading2 xs)) (settingsSize (reading2 xs)) part (region base (t .legal)) (t .long) k h
       outside k (inr h) =
-          joined-high (movedImage xs base) (settingsAt (reading xs)) (settingsSize (reading xs)) part (region base (t .legal)) (t .long) k
+          joined-high (movedImage xs base) (settingsAt (reading2 xs)) (settingsSize (reading2 xs)) part (region base (t .legal)) (t .long) k
           (omega (arith, guaranteed xs ok))
 
   -- and the setting bytes that do it are the shipped file's own
   pub explains-turns : (base : ℕ) → Explains xs ys base
-      → Turns xs ys base (take (settingsSize (reading xs)) (drop (settingsAt (reading xs)) ys))
+      → Turns xs ys base (take (settingsSize (reading2 xs)) (drop (settingsAt (reading2 xs)) ys))
   explains-turns base ex =
       record {
         legal = ex .legal;
@@ -240,10 +241,10 @@ module _ (xs ys : List ℕ) (bytes : Bytes xs) (ok : Read xs) where
       }
     where
       from : ℕ
-      from = settingsAt (reading xs)
+      from = settingsAt (reading2 xs)
 
       size : ℕ
-      size = settingsSize (reading xs)
+      size = settingsSize (reading2 xs)
 
       part : List ℕ
       part = take size (drop from ys)
@@ -276,24 +277,23 @@ module _ (xs ys : List ℕ) (bytes : Bytes xs) (ok : Read xs) where
   module _ (n : ℕ) (long : length ys ≡ length xs) (legal : Holds (legalBase (length xs) (shippedBase xs ys)))
       (room : length (differing xs ys) ≤ n) where
     reference-is : reference xs ys ≡ movedImage xs (shippedBase xs ys)
-    unfolding reference movedImage
-    reference-is = refl
+    reference-is = reference-two xs ys ok
 
     -- "explained" shows that the shipped file is the vendor image moved to its own base, but for setting bytes
     pub explained-shows : auditing xs ys n .explained ≡ true → Explains xs ys (shippedBase xs ys)
     explained-shows e = record { legal = legal; long = long; same = byte }
       where
-        none : strays (reading xs) (differing xs ys) ≡ 0
-        none = explained-strays xs ys n ok long legal room e
+        none : strays (reading2 xs) (differing xs ys) ≡ 0
+        none = rw (told-two xs ys ok) at (explained-strays xs ys n (read-too xs ys ok) long legal room e)
 
-        never : (k : ℕ) → OutsideSettings (reading xs) k → Holds (setting (reading xs) k) → ⊥
+        never : (k : ℕ) → OutsideSettings (reading2 xs) k → Holds (setting (reading2 xs) k) → ⊥
         never k (inl h) s = omega arith
         never k (inr h) s = omega arith
 
-        found : (k : ℕ) → (i : ℕ) × (i < length (differing xs ys)) × (getD (differing xs ys) i 0 ≡ k) → Holds (setting (reading xs) k)
-        found k (i, h, f) = rw f at (no-strays (reading xs) (differing xs ys) none i h)
+        found : (k : ℕ) → (i : ℕ) × (i < length (differing xs ys)) × (getD (differing xs ys) i 0 ≡ k) → Holds (setting (reading2 xs) k)
+        found k (i, h, f) = rw f at (no-strays (reading2 xs) (differing xs ys) none i h)
 
-        byte : (k : ℕ) → OutsideSettings (reading xs) k
+        byte : (k : ℕ) → OutsideSettings (reading2 xs) k
             → getD ys k 0 ≡ getD (movedImage xs (shippedBase xs ys)) k 0
         byte k out =
             elim (decLt k (length xs)) [
@@ -312,21 +312,21 @@ module _ (xs ys : List ℕ) (bytes : Bytes xs) (ok : Read xs) where
     -- and where some legal base explains the pair the audit says so, with that base
     pub explains-told : (base : ℕ) → Explains xs ys base → (base ≡ shippedBase xs ys) × (auditing xs ys n .explained ≡ true)
     explains-told base ex =
-        (explains-base base ex, strays-explained xs ys n ok long legal room (strays-none (reading xs) (differing xs ys) each))
+        (explains-base base ex, strays-explained xs ys n (read-too xs ys ok) long legal room (rw (told-two xs ys ok) (strays-none (reading2 xs) (differing xs ys) each)))
       where
-        same : (k : ℕ) → OutsideSettings (reading xs) k → getD ys k 0 ≡ getD (reference xs ys) k 0
+        same : (k : ℕ) → OutsideSettings (reading2 xs) k → getD ys k 0 ≡ getD (reference xs ys) k 0
         same k out =
             ex .same k out ∙ ap (λ (b : ℕ). getD (movedImage xs b) k 0) (explains-base base ex) ∙ ap (λ (l : List ℕ). getD l k 0)
             (sym reference-is)
 
-        each : (i : ℕ) → i < length (differing xs ys) → Holds (setting (reading xs) (getD (differing xs ys) i 0))
+        each : (i : ℕ) → i < length (differing xs ys) → Holds (setting (reading2 xs) (getD (differing xs ys) i 0))
         each i h =
             let k = getD (differing xs ys) i 0 in
             let differs : getD ys k 0 ≡ getD (reference xs ys) k 0 → ⊥ = differs-at xs ys i h .1 in
-            elim (decLt k (settingsAt (reading xs))) [
+            elim (decLt k (settingsAt (reading2 xs))) [
               | yes low ↦ absurd (differs (same k (inl low)))
               | no low ↦
-                  elim (decLt k (reading xs .c + reading xs .z)) [
+                  elim (decLt k (reading2 xs .c + reading2 xs .z)) [
                     | yes high ↦ (omega arith, omega arith)
                     | no high ↦ absurd (differs (same k (inr (omega arith))))
                   ]
@@ -342,7 +342,7 @@ module _ (xs ys : List ℕ) (bytes : Bytes xs) (ok : Read xs) where
         shown : auditing xs ys n .explained ≡ true → (base : ℕ) × (part : List ℕ) × Turns xs ys base part
         shown e = (
           shippedBase xs ys,
-          take (settingsSize (reading xs)) (drop (settingsAt (reading xs)) ys),
+          take (settingsSize (reading2 xs)) (drop (settingsAt (reading2 xs)) ys),
           explains-turns (shippedBase xs ys)
               (explained-shows e),
         )
@@ -351,4 +351,4 @@ module _ (xs ys : List ℕ) (bytes : Bytes xs) (ok : Read xs) where
             → (auditing xs ys n .explained ≡ true) × (auditing xs ys n .base ≡ base)
         told-so base part t =
             let x = explains-told base (turns-explains base part t) in
-            (x .1, told-always xs ys n ok long legal .0 ∙ sym (x .0))
+            (x .1, told-always xs ys n (read-too xs ys ok) long legal .0 ∙ sym (x .0))

@@ -10,7 +10,7 @@ use lib.Dec.{eqb}
 use lib.ListN.{length, getD}
 use Rattle.facts.specs.Fact.{Holds}
 use Rattle.words.specs.Le.{Bytes}
-use Rattle.reading_rules.specs.Reading.{rebased, reading, Read}
+use Rattle.reading_rules.specs.Reading.{rebased, reading2, Read2}
 use Rattle.answers.specs.declared.Moved.{Moved}
 use Rattle.moves.specs.Moves.{Beside}
 use Rattle.move_image.specs.Moving.{movedWords}
@@ -36,7 +36,7 @@ without w (c ∷ cs) = cond (eqb (c .owner) w) (without w cs) (c ∷ without w c
 -- each of this owner's that is accepted keeps the base
 unfoldable pub Keeps : ℕ → List ℕ → List Call → Type 0
 Keeps w xs [] = Unit {0}
-Keeps w xs (c ∷ cs) = (c .owner ≡ w → answerTo xs c .number ≡ 0 → c .base ≡ reading xs .base) × Keeps w (after xs c) cs
+Keeps w xs (c ∷ cs) = (c .owner ≡ w → answerTo xs c .number ≡ 0 → c .base ≡ reading2 xs .base) × Keeps w (after xs c) cs
 
 -- the image's byte k isn't this owner's, the region being at `region`
 abbrev pub NotOf : List ℕ → ℕ → ℕ → ℕ → Type 0
@@ -46,9 +46,9 @@ NotOf o w region k = (j : ℕ) → k ≡ region + j → Holds (owned o w j) → 
 -- owner w's is the same
 pub record Isolated (xs o : List ℕ) (w : ℕ) (cs : List Call) : Type 0 where
   pub same-answers : answersBut w xs cs ≡ answers xs (without w cs)
-  pub same-reading : reading (afterAll xs cs) ≡ reading (afterAll xs (without w cs))
+  pub same-reading : reading2 (afterAll xs cs) ≡ reading2 (afterAll xs (without w cs))
   pub same-length : length (afterAll xs cs) ≡ length (afterAll xs (without w cs))
-  pub same-bytes : (k : ℕ) → NotOf o w (reading xs .c) k → getD (afterAll xs cs) k 0 ≡ getD (afterAll xs (without w cs)) k 0
+  pub same-bytes : (k : ℕ) → NotOf o w (reading2 xs .c) k → getD (afterAll xs cs) k 0 ≡ getD (afterAll xs (without w cs)) k 0
 
 -- of any image, one that reads or not
 abbrev pub Isolation : Type 0
@@ -59,15 +59,15 @@ Isolation =
 abbrev pub Theirs : Type 0
 Theirs =
     (xs o : List ℕ) (w u : ℕ) (cs : List Call) → (u ≡ w → ⊥) → Bytes xs → SheetBytes cs → OneList o cs → Keeps w xs cs → (j : ℕ)
-    → Holds (owned o u j) → getD (afterAll xs cs) (reading xs .c + j) 0 ≡ getD (afterAll xs (without w cs)) (reading xs .c + j) 0
+    → Holds (owned o u j) → getD (afterAll xs cs) (reading2 xs .c + j) 0 ≡ getD (afterAll xs (without w cs)) (reading2 xs .c + j) 0
 
 -- ---- nobody's bytes: a byte of the settings part that is in no range is changed by no release
 
 abbrev pub Nobody's : Type 0
 Nobody's =
-    (xs s : List ℕ) (base : ℕ) (o : List ℕ) (owner : ℕ) → Bytes xs → Bytes s → Read xs → (j : ℕ) → 32 ≤ j → j < reading xs .z
+    (xs s : List ℕ) (base : ℕ) (o : List ℕ) (owner : ℕ) → Bytes xs → Bytes s → Read2 xs → (j : ℕ) → 32 ≤ j → j < reading2 xs .z
     → (Holds (owned o 1 j) → ⊥) → (Holds (owned o 2 j) → ⊥)
-    → getD (releasedImage xs s base o owner) (reading xs .c + j) 0 ≡ getD xs (reading xs .c + j) 0
+    → getD (releasedImage xs s base o owner) (reading2 xs .c + j) 0 ≡ getD xs (reading2 xs .c + j) 0
 
 -- ---- a move is seen by both: an accepted release changes the base in the reading and nothing else there; of the image's bytes it changes
 -- its own entries and the words of the move alone
@@ -75,6 +75,6 @@ Nobody's =
 abbrev pub Seen : Type 0
 Seen =
     (xs s : List ℕ) (base : ℕ) (o : List ℕ) (owner : ℕ) → Bytes xs → Bytes s → releasing xs s base o owner .number ≡ 0
-    → (reading (releasedImage xs s base o owner) ≡ rebased (reading xs) base)
-    × ((k : ℕ) → NotOf o owner (reading xs .c) k → Beside (movedWords xs) (movedWords xs .count) k
+    → (reading2 (releasedImage xs s base o owner) ≡ rebased (reading2 xs) base)
+    × ((k : ℕ) → NotOf o owner (reading2 xs .c) k → Beside (movedWords xs) (movedWords xs .count) k
     → getD (releasedImage xs s base o owner) k 0 ≡ getD xs k 0)

@@ -17,8 +17,8 @@ use Rattle.words.specs.LeLaws.{le-cong}
 use Rattle.words.specs.PutLaws.{le-one}
 use Rattle.answers.specs.declared.Reading.{Reading}
 use Rattle.reading_rules.specs.Words.{met}
-use Rattle.reading_rules.specs.Reading.{rebased, reading, Read}
-use Rattle.reading_rules.specs.Guarantee.{guaranteed}
+use Rattle.reading_rules.specs.Reading.{rebased, reading2, Read2}
+use Rattle.reading_rules.specs.Edition.{guaranteed}
 use Rattle.answers.specs.declared.Moved.{Moved}
 use Rattle.moves.specs.Moves.{difference, Beside}
 use Rattle.moves.specs.MovesLaws.{find}
@@ -57,18 +57,18 @@ owned-inside o z w j good mine =
 
 module _ (xs s : List ℕ) (base : ℕ) (o : List ℕ) (owner : ℕ) (ok : releasing xs s base o owner .number ≡ 0) where
   -- a byte of an entry of an accepted release is the caller's
-  entry-owned : (k : ℕ) → Within (reading xs) s k → (j : ℕ) → k ≡ reading xs .c + j → Holds (owned o owner j)
+  entry-owned : (k : ℕ) → Within (reading2 xs) s k → (j : ℕ) → k ≡ reading2 xs .c + j → Holds (owned o owner j)
   entry-owned k (i, h, low, high) j e =
       let at : offset s i + (j - offset s i) ≡ j = omega arith in
       rw at at (release-shows xs s base o owner ok .own i h (j - offset s i) (omega arith))
 
   -- so a byte that isn't the caller's lies in no entry
-  beside-entries : (k : ℕ) → NotOf o owner (reading xs .c) k → Beside (fieldsOf (reading xs) s) (count s) k
+  beside-entries : (k : ℕ) → NotOf o owner (reading2 xs .c) k → Beside (fieldsOf (reading2 xs) s) (count s) k
   beside-entries k not =
-      elim (find (fieldsOf (reading xs) s) (count s) k) [
+      elim (find (fieldsOf (reading2 xs) s) (count s) k) [
         | inl (i, h, low, high) ↦
-            let e : k ≡ reading xs .c + (k - reading xs .c) = omega arith in
-            absurd (not (k - reading xs .c) e (entry-owned k (i, h, low, high) (k - reading xs .c) e))
+            let e : k ≡ reading2 xs .c + (k - reading2 xs .c) = omega arith in
+            absurd (not (k - reading2 xs .c) e (entry-owned k (i, h, low, high) (k - reading2 xs .c) e))
         | inr out ↦ out
       ]
 
@@ -76,16 +76,16 @@ module _ (xs s : List ℕ) (base : ℕ) (o : List ℕ) (owner : ℕ) (ok : relea
 record Together (o : List ℕ) (w region : ℕ) (ys zs : List ℕ) : Type 0 where
   left-bytes : Bytes ys
   right-bytes : Bytes zs
-  read : Read ys
-  reads : reading ys ≡ reading zs
+  read : Read2 ys
+  reads : reading2 ys ≡ reading2 zs
   long : length ys ≡ length zs
-  at : reading ys .c ≡ region
+  at : reading2 ys .c ≡ region
   same : (k : ℕ) → NotOf o w region k → getD ys k 0 ≡ getD zs k 0
 
 -- ---- one of w's own, on one side
 
 own-step : (o : List ℕ) (w region : ℕ) (ys zs s : List ℕ) (base : ℕ) → Together o w region ys zs → Bytes s
-    → (releasing ys s base o w .number ≡ 0 → base ≡ reading ys .base)
+    → (releasing ys s base o w .number ≡ 0 → base ≡ reading2 ys .base)
     → Together o w region (releasedImage ys s base o w) zs
 own-step o w region ys zs s base t bs keeps =
     elim (ℕ-discrete (releasing ys s base o w .number) 0) [
@@ -109,7 +109,7 @@ own-step o w region ys zs s base t bs keeps =
 -- ---- any other, on both
 
 -- both sides give one answer
-same-answer : (ys zs s : List ℕ) (base : ℕ) (o : List ℕ) (owner : ℕ) → reading ys ≡ reading zs → length ys ≡ length zs
+same-answer : (ys zs s : List ℕ) (base : ℕ) (o : List ℕ) (owner : ℕ) → reading2 ys ≡ reading2 zs → length ys ≡ length zs
     → releasing ys s base o owner ≡ releasing zs s base o owner
 unfolding releasing
 same-answer ys zs s base o owner reads long = rw (reads, long)
@@ -119,22 +119,22 @@ module _ (o : List ℕ) (w region : ℕ) (ys zs s : List ℕ) (base owner : ℕ)
   ok′ : releasing zs s base o owner .number ≡ 0
   ok′ = ap (λ (m : Moved). m .number) (sym (same-answer ys zs s base o owner (t .reads) (t .long))) ∙ ok
 
-  good : Holds (listFits o (reading ys .z))
+  good : Holds (listFits o (reading2 ys .z))
   good = release-shows ys s base o owner ok .good .0
 
   -- a byte outside the settings part is nobody's
-  out-of-part : (k : ℕ) → OutsideSettings (reading ys) k → NotOf o w region k
-  out-of-part k (inl low) j e mine = omega (arith, t .at, owned-inside o (reading ys .z) w j good mine)
-  out-of-part k (inr high) j e mine = omega (arith, t .at, owned-inside o (reading ys .z) w j good mine)
+  out-of-part : (k : ℕ) → OutsideSettings (reading2 ys) k → NotOf o w region k
+  out-of-part k (inl low) j e mine = omega (arith, t .at, owned-inside o (reading2 ys .z) w j good mine)
+  out-of-part k (inr high) j e mine = omega (arith, t .at, owned-inside o (reading2 ys .z) w j good mine)
 
   -- the words are the same
-  words-same : met zs (reading zs) ≡ met ys (reading ys)
+  words-same : met zs (reading2 zs) ≡ met ys (reading2 ys)
   words-same =
       same-words ys zs (t .read) (record { long = t .long; same = λ k words out. t .same k (out-of-part k out) }) (sym (t .reads))
 
   -- and hold the same numbers
   word-same : (j : ℕ) → j < movedWords ys .count → Alike ys zs (movedWords ys .at j) (movedWords ys .width j)
-  word-same j h = go (words-outside ys (reading ys) (guaranteed ys (t .read)) j h)
+  word-same j h = go (words-outside ys (reading2 ys) (guaranteed ys (t .read)) j h)
     where
       p : ℕ
       p = movedWords ys .at j
@@ -142,7 +142,7 @@ module _ (o : List ℕ) (w region : ℕ) (ys zs s : List ℕ) (base owner : ℕ)
       m : ℕ
       m = movedWords ys .width j
 
-      go : (p + m ≤ reading ys .c) ⊎ (reading ys .c + reading ys .z ≤ p) → Alike ys zs p m
+      go : (p + m ≤ reading2 ys .c) ⊎ (reading2 ys .c + reading2 ys .z ≤ p) → Alike ys zs p m
       go (inl a) = record { same = λ k l. t .same (p + k) (out-of-part (p + k) (inl (omega arith))) }
       go (inr a) = record { same = λ k l. t .same (p + k) (out-of-part (p + k) (inr (omega arith))) }
 
@@ -164,7 +164,7 @@ module _ (o : List ℕ) (w region : ℕ) (ys zs s : List ℕ) (base owner : ℕ)
   number j h =
       let p = movedWords ys .at j in
       let m = movedWords ys .width j in
-      let d = difference (reading ys .base) base m in
+      let d = difference (reading2 ys .base) base m in
       let there : le m zs′ p ≡ (le m zs p + d) % 256 ^ m =
       rw (words-same, ← t .reads) at (released-word zs s base o owner ok′ (t .right-bytes) bs j (rw words-same h)) in
       released-word ys s base o owner ok (t .left-bytes) bs j h
@@ -173,9 +173,9 @@ module _ (o : List ℕ) (w region : ℕ) (ys zs s : List ℕ) (base owner : ℕ)
 
   -- each byte afterwards
   byte : (k : ℕ) → NotOf o w region k → getD ys′ k 0 ≡ getD zs′ k 0
-  byte k not = fields (find (fieldsOf (reading ys) s) (count s) k)
+  byte k not = fields (find (fieldsOf (reading2 ys) s) (count s) k)
     where
-      word : Beside (fieldsOf (reading ys) s) (count s) k
+      word : Beside (fieldsOf (reading2 ys) s) (count s) k
           → ((j : ℕ) × (j < movedWords ys .count) × (movedWords ys .at j ≤ k) × (k < movedWords ys .at j + movedWords ys .width j)) ⊎ Beside
           (movedWords ys) (movedWords ys .count) k
           → getD ys′ k 0 ≡ getD zs′ k 0
@@ -188,10 +188,10 @@ module _ (o : List ℕ) (w region : ℕ) (ys zs s : List ℕ) (base owner : ℕ)
           ∙ t .same k not
           ∙ sym (released-other zs s base o owner ok′ (t .right-bytes) bs k (rw (← t .reads) out) (rw words-same words))
 
-      fields : Within (reading ys) s k ⊎ Beside (fieldsOf (reading ys) s) (count s) k → getD ys′ k 0 ≡ getD zs′ k 0
+      fields : Within (reading2 ys) s k ⊎ Beside (fieldsOf (reading2 ys) s) (count s) k → getD ys′ k 0 ≡ getD zs′ k 0
       fields (inl (i, h, low, high)) =
-          let j = k - (reading ys .c + offset s i) in
-          let e : reading ys .c + offset s i + j ≡ k = omega arith in
+          let j = k - (reading2 ys .c + offset s i) in
+          let e : reading2 ys .c + offset s i + j ≡ k = omega arith in
           let here = released-entry ys s base o owner ok (t .left-bytes) bs i j h (omega arith) in
           let there = rw (← t .reads) at (released-entry zs s base o owner ok′ (t .right-bytes) bs i j h (omega arith)) in
           rw e at (here ∙ sym there)
@@ -286,11 +286,11 @@ module _ (xs o : List ℕ) (none : (s : List ℕ) (base owner : ℕ) → releasi
 
 pub isolation : Isolation
 isolation xs o w cs bx bs one keeps =
-    elim (ℕ-discrete (reading xs .number) 0) [
+    elim (ℕ-discrete (reading2 xs .number) 0) [
       | yes ok ↦
-          let start : Together o w (reading xs .c) xs xs =
+          let start : Together o w (reading2 xs .c) xs xs =
           record { left-bytes = bx; right-bytes = bx; read = ok; reads = refl; long = refl; at = refl; same = λ k not. refl } in
-          let r = sequence o w (reading xs .c) cs xs xs start bs one keeps in
+          let r = sequence o w (reading2 xs .c) cs xs xs start bs one keeps in
           record { same-answers = r .told; same-reading = r .ends .reads; same-length = r .ends .long; same-bytes = r .ends .same }
       | no h ↦
           let none : (s : List ℕ) (base owner : ℕ) → releasing xs s base o owner .number ≡ 0 → ⊥ =
@@ -298,7 +298,7 @@ isolation xs o w cs bx bs one keeps =
           let e = nothing-sent xs o none w cs one in
           record {
             same-answers = all-answers xs o none w cs one;
-            same-reading = ap (λ (l : List ℕ). reading l) e;
+            same-reading = ap (λ (l : List ℕ). reading2 l) e;
             same-length = ap (λ (l : List ℕ). length l) e;
             same-bytes = λ k not. ap (λ (l : List ℕ). getD l k 0) e;
           }
@@ -319,18 +319,18 @@ one-owner o z u w j good other mine theirs = mine (λ i h is. theirs (λ k g at.
         ]
 
 pub theirs : Theirs
-theirs xs o w u cs other bx bs one keeps j mine = go (test (listFits o (reading xs .z))) refl
+theirs xs o w u cs other bx bs one keeps j mine = go (test (listFits o (reading2 xs .z))) refl
   where
-    go : (b : Bool) → test (listFits o (reading xs .z)) ≡ b
-        → getD (afterAll xs cs) (reading xs .c + j) 0 ≡ getD (afterAll xs (without w cs)) (reading xs .c + j) 0
+    go : (b : Bool) → test (listFits o (reading2 xs .z)) ≡ b
+        → getD (afterAll xs cs) (reading2 xs .c + j) 0 ≡ getD (afterAll xs (without w cs)) (reading2 xs .c + j) 0
     go true e =
-        isolation xs o w cs bx bs one keeps .same-bytes (reading xs .c + j)
+        isolation xs o w cs bx bs one keeps .same-bytes (reading2 xs .c + j)
         (λ i at own. let same : j ≡ i = omega arith in
-        one-owner o (reading xs .z) u w i (holds (listFits o (reading xs .z)) e) other (rw same at mine) own)
+        one-owner o (reading2 xs .z) u w i (holds (listFits o (reading2 xs .z)) e) other (rw same at mine) own)
     go false e =
         let none : (s : List ℕ) (base owner : ℕ) → releasing xs s base o owner .number ≡ 0 → ⊥ =
-        (λ s base owner z. fails-not (listFits o (reading xs .z)) e (release-shows xs s base o owner z .good .0)) in
-        ap (λ (l : List ℕ). getD l (reading xs .c + j) 0) (nothing-sent xs o none w cs one)
+        (λ s base owner z. fails-not (listFits o (reading2 xs .z)) e (release-shows xs s base o owner z .good .0)) in
+        ap (λ (l : List ℕ). getD l (reading2 xs .c + j) 0) (nothing-sent xs o none w cs one)
 
 pub seen : Seen
 seen xs s base o owner bx bs ok = (
@@ -341,20 +341,20 @@ seen xs s base o owner bx bs ok = (
 pub nobody's : Nobody's
 nobody's xs s base o owner bx bs read j low high not-1 not-2 =
     elim (ℕ-discrete (releasing xs s base o owner .number) 0) [
-      | no h ↦ ap (λ (l : List ℕ). getD l (reading xs .c + j) 0) (release-kept xs s base o owner h)
+      | no h ↦ ap (λ (l : List ℕ). getD l (reading2 xs .c + j) 0) (release-kept xs s base o owner h)
       | yes ok ↦ accepted ok (release-shows xs s base o owner ok .good .1)
     ]
   where
-    not-own : (w : ℕ) → (Holds (owned o w j) → ⊥) → NotOf o w (reading xs .c) (reading xs .c + j)
+    not-own : (w : ℕ) → (Holds (owned o w j) → ⊥) → NotOf o w (reading2 xs .c) (reading2 xs .c + j)
     not-own w none i e mine = let same : j ≡ i = omega arith in none (rw same mine)
 
-    words : Beside (movedWords xs) (movedWords xs .count) (reading xs .c + j)
+    words : Beside (movedWords xs) (movedWords xs .count) (reading2 xs .c + j)
     words =
         let g = guaranteed xs read in
-        beside xs (reading xs) g (movedWords xs .count) (reading xs .c + j) (omega arith) (inr (omega (arith, g)))
+        beside xs (reading2 xs) g (movedWords xs .count) (reading2 xs .c + j) (omega arith) (inr (omega (arith, g)))
         (inr (omega arith, omega arith))
 
     accepted : releasing xs s base o owner .number ≡ 0 → (owner ≡ 1) ⊎ (owner ≡ 2)
-        → getD (releasedImage xs s base o owner) (reading xs .c + j) 0 ≡ getD xs (reading xs .c + j) 0
-    accepted ok (inl e) = seen xs s base o owner bx bs ok .1 (reading xs .c + j) (rw e (not-own 1 not-1)) words
-    accepted ok (inr e) = seen xs s base o owner bx bs ok .1 (reading xs .c + j) (rw e (not-own 2 not-2)) words
+        → getD (releasedImage xs s base o owner) (reading2 xs .c + j) 0 ≡ getD xs (reading2 xs .c + j) 0
+    accepted ok (inl e) = seen xs s base o owner bx bs ok .1 (reading2 xs .c + j) (rw e (not-own 1 not-1)) words
+    accepted ok (inr e) = seen xs s base o owner bx bs ok .1 (reading2 xs .c + j) (rw e (not-own 2 not-2)) words

@@ -15,9 +15,9 @@ use Rattle.words.specs.Le.{le, Bytes}
 use Rattle.words.specs.Put.{digit}
 use Rattle.words.specs.Number.{number, zeros}
 use Rattle.answers.specs.declared.Reading.{Reading}
-use Rattle.reading_rules.specs.Reading.{rebased, reading}
+use Rattle.reading_rules.specs.Reading.{rebased, reading2}
 use Rattle.answers.specs.After.{afterReading}
-use Rattle.reading_rules.specs.Small.{small, settingBytes, small-reads}
+use Rattle.reading_rules.specs.Small.{small, settingBytes, small-reads-2}
 use Rattle.answers.specs.declared.Moved.{Moved}
 use Rattle.move_answer.specs.MoveAnswer.{refusedMove}
 use Rattle.sheet.specs.Sheet.{bodyAt}
@@ -47,7 +47,7 @@ abbrev maker : List ℕ
 maker = small 0xFFF80000 0xFFF80040 (settingBytes 0 1)
 
 abbrev read-of : Reading
-read-of = reading maker
+read-of = reading2 maker
 
 pub calls : List Call
 calls =
@@ -72,20 +72,20 @@ unfolding small number zeros
 long = refl
 
 -- an answer goes by the reading and the length alone
-by-reading : (xs s : List ℕ) (base w : ℕ) (r : Reading) → reading xs ≡ r → length xs ≡ 360
+by-reading : (xs s : List ℕ) (base w : ℕ) (r : Reading) → reading2 xs ≡ r → length xs ≡ 360
     → releasing xs s base two w ≡ afterReading refusedMove r (releaseRules r 360 s base two w)
 unfolding releasing
 by-reading xs s base w r e l = rw (e, l)
 
 first : releasing maker sample 0xFFF80000 two 1 .number ≡ 0
 unfolding afterReading run releaseRules nameRules test allBelow le sample number digit bodyAt
-first = ap (λ (m : Moved). m .number) (by-reading maker sample 0xFFF80000 1 _ small-reads long)
+first = ap (λ (m : Moved). m .number) (by-reading maker sample 0xFFF80000 1 _ small-reads-2 long)
 
 bytes₁ : Bytes x₁
 unfolding x₁
 bytes₁ = bytes-released maker sample 0xFFF80000 two 1 first maker-bytes sample-bytes
 
-reads₁ : reading x₁ ≡ rebased read-of 0xFFF80000
+reads₁ : reading2 x₁ ≡ rebased read-of 0xFFF80000
 unfolding x₁
 reads₁ = released-reads maker sample 0xFFF80000 two 1 first maker-bytes sample-bytes
 
@@ -97,13 +97,13 @@ long₁ = length-released maker sample 0xFFF80000 two 1 first maker-bytes sample
 pub moved : releasing x₁ second 0x00100000 two 2 ≡ record { number = 0; index = 0; distance = negsuc 4293394431 }
 unfolding afterReading run releaseRules nameRules test allBelow le second number digit bodyAt
 moved =
-    by-reading x₁ second 0x00100000 2 _ (reads₁ ∙ ap (λ (r : Reading). rebased r 0xFFF80000) small-reads) long₁
+    by-reading x₁ second 0x00100000 2 _ (reads₁ ∙ ap (λ (r : Reading). rebased r 0xFFF80000) small-reads-2) long₁
 
 bytes₂ : Bytes x₂
 unfolding x₂
 bytes₂ = bytes-released x₁ second 0x00100000 two 2 (ap (λ (m : Moved). m .number) moved) bytes₁ second-bytes
 
-reads₂ : reading x₂ ≡ rebased read-of 0x00100000
+reads₂ : reading2 x₂ ≡ rebased read-of 0x00100000
 unfolding x₂
 reads₂ =
     released-reads x₁ second 0x00100000 two 2 (ap (λ (m : Moved). m .number) moved) bytes₁ second-bytes
@@ -117,15 +117,15 @@ long₂ = length-released x₁ second 0x00100000 two 2 (ap (λ (m : Moved). m .n
 pub refused : releasing x₂ second 0x00100000 two 1 ≡ refusedMove 24 0
 unfolding afterReading run releaseRules nameRules test allBelow le second number digit bodyAt
 refused =
-    by-reading x₂ second 0x00100000 1 _ (reads₂ ∙ ap (λ (r : Reading). rebased r 0x00100000) small-reads) long₂
+    by-reading x₂ second 0x00100000 1 _ (reads₂ ∙ ap (λ (r : Reading). rebased r 0x00100000) small-reads-2) long₂
 
 unaccepted : releasing x₂ second 0x00100000 two 1 .number ≡ 0 → ⊥
 unaccepted z = let k : _≡_ {A = ℕ} 24 0 = sym (ap (λ (m : Moved). m .number) refused) ∙ z in omega arith
 
-base₃ : reading x₃ .base ≡ 0x00100000
+base₃ : reading2 x₃ .base ≡ 0x00100000
 unfolding x₃
 base₃ =
-    ap (λ (l : List ℕ). reading l .base) (release-kept x₂ second 0x00100000 two 1 unaccepted) ∙ ap (λ (r : Reading). r .base) reads₂
+    ap (λ (l : List ℕ). reading2 l .base) (release-kept x₂ second 0x00100000 two 1 unaccepted) ∙ ap (λ (r : Reading). r .base) reads₂
 
 -- and takes its own again
 pub again : releasing x₃ sample 0x00100000 two 1 .number ≡ 0
@@ -133,13 +133,13 @@ unfolding x₃ afterReading run releaseRules nameRules test allBelow le sample n
 again =
     ap (λ (l : List ℕ). releasing l sample 0x00100000 two 1 .number) (release-kept x₂ second 0x00100000 two 1 unaccepted)
     ∙ ap (λ (m : Moved). m .number)
-    (by-reading x₂ sample 0x00100000 1 _ (reads₂ ∙ ap (λ (r : Reading). rebased r 0x00100000) small-reads) long₂)
+    (by-reading x₂ sample 0x00100000 1 _ (reads₂ ∙ ap (λ (r : Reading). rebased r 0x00100000) small-reads-2) long₂)
 
 -- owner 1 keeps the base throughout
 pub keeps : Keeps 1 maker calls
 unfolding Keeps calls x₁ x₂ x₃
 keeps = (
-  (λ own ok. sym (ap (λ (r : Reading). r .base) small-reads)),
+  (λ own ok. sym (ap (λ (r : Reading). r .base) small-reads-2)),
   ((λ own. absurd (omega arith)), ((λ own ok. absurd (unaccepted ok)), ((λ own ok. sym base₃), tt))),
 )
 

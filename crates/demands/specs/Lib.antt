@@ -1,7 +1,9 @@
 pub mod Explains
 pub mod Made
 pub mod MadeLaws
+pub mod Editions
 pub mod Explained
+pub mod Nowhere
 pub mod Stored
 pub mod StoredLaws
 pub mod Always
@@ -23,3 +25,6 @@ pub mod AsReleased
 pub mod AsReleasedHolds
 pub mod Reserved
 pub mod ReservedHolds
+pub mod Older
+pub mod OlderHolds
+pub mod OlderMet

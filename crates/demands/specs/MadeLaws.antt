@@ -13,10 +13,11 @@ use Rattle.words.specs.PutLaws.{le-one}
 use Rattle.header.specs.Base.{legalBase}
 use Rattle.answers.specs.declared.Reading.{Reading}
 use Rattle.reading_rules.specs.Words.{met}
-use Rattle.reading_rules.specs.Reading.{rebased, reading, Read}
-use Rattle.reading_rules.specs.Guarantee.{guaranteed}
+use Rattle.reading_rules.specs.Reading.{rebased, reading2, Read2}
+use Rattle.reading_rules.specs.Edition.{guaranteed}
 use Rattle.reading_rules.specs.WordsLaws.{words-outside}
-use Rattle.reading_rules.specs.FrameBut.{AlikeBut, frame-but}
+use Rattle.reading_rules.specs.FrameBut.{AlikeBut}
+use Rattle.reading_rules.specs.Edition.{frame-but}
 use Rattle.reading_rules.specs.Settings.{OutsideSettings}
 use Rattle.moves.specs.Moves.{difference, Beside}
 use Rattle.moves.specs.MovesLaws.{find}
@@ -32,26 +33,26 @@ use Rattle.demands.specs.Made.{Made, start, then}
 
 -- ---- two images that agree outside the settings part
 
-module _ (ys zs : List ℕ) (fine : Read ys) (long : length zs ≡ length ys)
-    (same : (k : ℕ) → OutsideSettings (reading ys) k → getD zs k 0 ≡ getD ys k 0) where
-  base-alike : le 4 zs (reading ys .H + 28) ≡ reading ys .base
+module _ (ys zs : List ℕ) (fine : Read2 ys) (long : length zs ≡ length ys)
+    (same : (k : ℕ) → OutsideSettings (reading2 ys) k → getD zs k 0 ≡ getD ys k 0) where
+  base-alike : le 4 zs (reading2 ys .H + 28) ≡ reading2 ys .base
   base-alike =
       let g = guaranteed ys fine in
-      le-cong 4 zs ys (reading ys .H + 28) (record { same = λ j h. same (reading ys .H + 28 + j) (inl (omega (arith, g))) }) ∙ sym
+      le-cong 4 zs ys (reading2 ys .H + 28) (record { same = λ j h. same (reading2 ys .H + 28 + j) (inl (omega (arith, g))) }) ∙ sym
       (g .base-is)
 
-  but-alike : AlikeBut ys zs (reading ys)
+  but-alike : AlikeBut ys zs (reading2 ys)
   but-alike = record { long = sym long; same = λ k words out. sym (same k out) }
 
   -- they read alike
-  reads-alike : reading zs ≡ reading ys
+  reads-alike : reading2 zs ≡ reading2 ys
   reads-alike =
       frame-but ys zs fine but-alike (rw (base-alike, long) (guaranteed ys fine .legal))
-      ∙ ap (λ (w : ℕ). rebased (reading ys) w) base-alike
+      ∙ ap (λ (w : ℕ). rebased (reading2 ys) w) base-alike
 
   -- no byte of a word of a move lies in the settings part
   word-alike : (j : ℕ) → j < movedWords ys .count → Alike zs ys (movedWords ys .at j) (movedWords ys .width j)
-  word-alike j h = go (words-outside ys (reading ys) (guaranteed ys fine) j h)
+  word-alike j h = go (words-outside ys (reading2 ys) (guaranteed ys fine) j h)
     where
       w : ℕ
       w = movedWords ys .at j
@@ -59,19 +60,19 @@ module _ (ys zs : List ℕ) (fine : Read ys) (long : length zs ≡ length ys)
       m : ℕ
       m = movedWords ys .width j
 
-      go : (w + m ≤ reading ys .c) ⊎ (reading ys .c + reading ys .z ≤ w) → Alike zs ys w m
+      go : (w + m ≤ reading2 ys .c) ⊎ (reading2 ys .c + reading2 ys .z ≤ w) → Alike zs ys w m
       go (inl a) = record { same = λ k l. same (w + k) (inl (omega arith)) }
       go (inr a) = record { same = λ k l. same (w + k) (inr (omega arith)) }
 
   -- so they agree there after a move to one base
-  moves-alike : Bytes ys → Bytes zs → (next : ℕ) → Holds (legalBase (length ys) next) → (k : ℕ) → OutsideSettings (reading ys) k
+  moves-alike : Bytes ys → Bytes zs → (next : ℕ) → Holds (legalBase (length ys) next) → (k : ℕ) → OutsideSettings (reading2 ys) k
       → getD (movedImage zs next) k 0 ≡ getD (movedImage ys next) k 0
   moves-alike by bz next legal k out = go (find (movedWords ys) (movedWords ys .count) k)
     where
-      words : met zs (reading zs) ≡ met ys (reading ys)
+      words : met zs (reading2 zs) ≡ met ys (reading2 ys)
       words = same-words ys zs fine but-alike reads-alike
 
-      fine′ : Read zs
+      fine′ : Read2 zs
       fine′ = ap (λ (s : Reading). s .number) reads-alike ∙ fine
 
       legal′ : Holds (legalBase (length zs) next)
@@ -83,7 +84,7 @@ module _ (ys zs : List ℕ) (fine : Read ys) (long : length zs ≡ length ys)
       number j h =
           let w = movedWords ys .at j in
           let m = movedWords ys .width j in
-          let d = difference (reading ys .base) next m in
+          let d = difference (reading2 ys .base) next m in
           let there : le m (movedImage zs next) w ≡ (le m zs w + d) % 256 ^ m =
           rw (words, reads-alike) at (moved-number zs bz fine′ next legal′ j (rw words h)) in
           there ∙ ap (λ (v : ℕ). (v + d) % 256 ^ m) (le-cong m zs ys w (word-alike j h)) ∙ sym (moved-number ys by fine next legal j h)
@@ -101,28 +102,28 @@ module _ (ys zs : List ℕ) (fine : Read ys) (long : length zs ≡ length ys)
 
 -- ---- what explains an image
 
-module _ (xs : List ℕ) (ok : Read xs) (bytes : Bytes xs) where
+module _ (xs : List ℕ) (ok : Read2 xs) (bytes : Bytes xs) where
   module _ (zs : List ℕ) (base : ℕ) (bz : Bytes zs) (e : Explains xs zs base) where
-    reads : reading (movedImage xs base) ≡ rebased (reading xs) base
+    reads : reading2 (movedImage xs base) ≡ rebased (reading2 xs) base
     reads = moved-reads xs bytes ok base (e .legal)
 
-    fine : Read (movedImage xs base)
+    fine : Read2 (movedImage xs base)
     fine = ap (λ (r : Reading). r .number) reads ∙ ok
 
     long : length zs ≡ length (movedImage xs base)
     long = e .long ∙ sym (length-after xs bytes ok base (e .legal))
 
-    same : (k : ℕ) → OutsideSettings (reading (movedImage xs base)) k → getD zs k 0 ≡ getD (movedImage xs base) k 0
+    same : (k : ℕ) → OutsideSettings (reading2 (movedImage xs base)) k → getD zs k 0 ≡ getD (movedImage xs base) k 0
     same = rw reads (e .same)
 
     -- the image reads as the vendor image does, but for the base
-    pub explained-reads : reading zs ≡ rebased (reading xs) base
+    pub explained-reads : reading2 zs ≡ rebased (reading2 xs) base
     explained-reads = reads-alike (movedImage xs base) zs fine long same ∙ reads
 
     -- an image that was explained is so after a move, by the new base
     explains-moved : (next : ℕ) → Holds (legalBase (length zs) next) → Explains xs (movedImage zs next) next
     explains-moved next goes =
-        let read : Read zs = ap (λ (r : Reading). r .number) explained-reads ∙ ok in
+        let read : Read2 zs = ap (λ (r : Reading). r .number) explained-reads ∙ ok in
         let fine-base : Holds (legalBase (length xs) next) = rw (e .long) at goes in
         let fine-base′ : Holds (legalBase (length (movedImage xs base)) next) = rw (length-after xs bytes ok base (e .legal)) fine-base in
         record {
@@ -154,7 +155,7 @@ module _ (xs : List ℕ) (ok : Read xs) (bytes : Bytes xs) where
       (rw (length-after-set zs s fit) (released-legal zs s next o owner goes)))
 
   -- the vendor image is explained by its own base
-  pub explains-start : Explains xs xs (reading xs .base)
+  pub explains-start : Explains xs xs (reading2 xs .base)
   explains-start =
       record {
         legal =
@@ -164,7 +165,7 @@ module _ (xs : List ℕ) (ok : Read xs) (bytes : Bytes xs) where
       }
 
 -- all of it is explained by that base
-pub made-explains : (xs : List ℕ) → Read xs → Bytes xs → {zs : List ℕ} {base : ℕ} → Made xs zs base
+pub made-explains : (xs : List ℕ) → Read2 xs → Bytes xs → {zs : List ℕ} {base : ℕ} → Made xs zs base
     → Bytes zs × Explains xs zs base
 made-explains xs ok bytes start = (bytes, explains-start xs ok bytes)
 made-explains xs ok bytes (then {zs} {base} m s next o owner bs goes) =

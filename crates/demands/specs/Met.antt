@@ -16,8 +16,8 @@ use Rattle.words.specs.Put.{digit}
 use Rattle.words.specs.Number.{number, zeros}
 use Rattle.header.specs.Base.{legalBase}
 use Rattle.answers.specs.declared.Reading.{Reading}
-use Rattle.reading_rules.specs.Reading.{Read}
-use Rattle.reading_rules.specs.Small.{small, settingBytes, small-reads}
+use Rattle.reading_rules.specs.Reading.{Read2}
+use Rattle.reading_rules.specs.Small.{small, settingBytes, small-reads-2, small-reads}
 use Rattle.reading_rules.specs.Damaged.{damaged, damaged-refused}
 use Rattle.answers.specs.declared.Moved.{Moved}
 use Rattle.sheet_bodies.specs.Small.{sample}
@@ -47,8 +47,8 @@ pub maker-bytes : Bytes maker
 unfolding small number zeros digit
 maker-bytes = bytes-so maker refl
 
-pub maker-reads : Read maker
-maker-reads = ap (λ (r : Reading). r .number) small-reads
+pub maker-reads : Read2 maker
+maker-reads = ap (λ (r : Reading). r .number) small-reads-2
 
 -- a sheet, a base, a list and an owner with which it can be released
 pub sample-bytes : Bytes sample

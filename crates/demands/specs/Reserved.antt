@@ -9,7 +9,7 @@ use Rattle.facts.specs.Fact.{Holds}
 use Rattle.words.specs.Le.{le}
 use Rattle.table.specs.Entry.{reservedFits}
 use Rattle.answers.specs.declared.Reading.{Reading}
-use Rattle.reading_rules.specs.Reading.{refusal, entriesAt, reading, Reads}
+use Rattle.reading_rules.specs.Reading.{refusal, entriesAt, reading, Reads, reading2}
 use Rattle.answers.specs.declared.Moved.{Moved}
 use Rattle.move_answer.specs.MoveAnswer.{refusedMove}
 use Rattle.release.specs.Release.{Releases}
@@ -19,9 +19,9 @@ use Rattle.audit.specs.Audit.{refusedAudit, Audits, AuditsBytes}
 use Rattle.answers.specs.declared.Listed.{Listed}
 use Rattle.contents.specs.Listing.{refusedList, Lists}
 
--- the reserved bits of every entry are right
+-- the reserved bits of every entry are right; an edition 1 image has none
 abbrev pub Unreserved : List ℕ → Type 0
-Unreserved xs = let r = reading xs in (i : ℕ) → i < r .n → Holds (reservedFits (le 4 xs (entriesAt r + 4 * i)))
+Unreserved xs = let r = reading2 xs in (i : ℕ) → i < r .n → Holds (reservedFits (le 4 xs (entriesAt r + 4 * i)))
 
 -- ---- what is accepted has no such entry
 

@@ -13,12 +13,11 @@ use Rattle.words.specs.Le.{le}
 use Rattle.words.specs.Put.{putAll}
 use Rattle.words.specs.PutLaws.{length-putAll, putAll-above, le-putAll}
 use Rattle.answers.specs.declared.Reading.{Reading}
-use Rattle.reading_rules.specs.Reading.{reading}
-use Rattle.reading_rules.specs.Guarantee.{guaranteed}
+use Rattle.reading_rules.specs.Guarantee.{shared}
 use Rattle.answers.specs.AfterLaws.{changed-so, kept-so}
 use Rattle.audit_count.specs.Differences.{agrees, differences, setting, entry, entries}
 use Rattle.audit_count.specs.DifferenceLaws.{length-entries}
-use Rattle.audit.specs.Audit.{reference, differing, auditing, listed, listedBytes}
+use Rattle.audit.specs.Audit.{reference, toldBy, differing, auditing, listed, listedBytes}
 use Rattle.audit.specs.AuditLaws.{audit-accepted, fits}
 
 module _ (r : Reading) where
@@ -51,18 +50,18 @@ module _ (xs ys places : List ℕ) where
   unfolding listed
   length-listed =
       let number = auditing xs ys (length places) .number in
-      let es = entries (reading xs) (differing xs ys) in
+      let es = entries (toldBy xs) (differing xs ys) in
       elim (ℕ-discrete number 0) [
         | yes e ↦ rw (changed-so number (sets places 0 es) places e) (length-sets places 0 es)
         | no e ↦ rw (kept-so number (sets places 0 es) places e)
       ]
 
   module _ (ok : auditing xs ys (length places) .number ≡ 0) where
-    stored : listed xs ys places ≡ entries (reading xs) (differing xs ys) ++ drop (length (differing xs ys)) places
+    stored : listed xs ys places ≡ entries (toldBy xs) (differing xs ys) ++ drop (length (differing xs ys)) places
     unfolding listed
     stored =
-        let es = entries (reading xs) (differing xs ys) in
-        let e : length es ≡ length (differing xs ys) = length-entries (reading xs) (differing xs ys) in
+        let es = entries (toldBy xs) (differing xs ys) in
+        let e : length es ≡ length (differing xs ys) = length-entries (toldBy xs) (differing xs ys) in
         let z : 0 + length es ≡ length (differing xs ys) = omega arith in
         let room = fits xs ys (length places) ok in
         changed-so (auditing xs ys (length places) .number) (sets places 0 es) places ok
@@ -70,18 +69,18 @@ module _ (xs ys places : List ℕ) where
         ∙ rw z
 
     -- the place of the i-th difference holds its entry
-    pub place-is : (i : ℕ) → i < length (differing xs ys) → getD (listed xs ys places) i 0 ≡ entry (reading xs) (getD (differing xs ys) i 0)
+    pub place-is : (i : ℕ) → i < length (differing xs ys) → getD (listed xs ys places) i 0 ≡ entry (toldBy xs) (getD (differing xs ys) i 0)
     place-is i h =
-        rw stored (List·getD-append (entries (reading xs) (differing xs ys)) (drop (length (differing xs ys)) places) 0 i
+        rw stored (List·getD-append (entries (toldBy xs) (differing xs ys)) (drop (length (differing xs ys)) places) 0 i
         (rw length-entries h)
-        ∙ getD-entries (reading xs) (differing xs ys) i h)
+        ∙ getD-entries (toldBy xs) (differing xs ys) i h)
 
     -- what stands after the last entry stays
     pub place-kept : (i : ℕ) → length (differing xs ys) ≤ i → getD (listed xs ys places) i 0 ≡ getD places i 0
     place-kept i h =
         let n = length (differing xs ys) in
         let e : n + (i - n) ≡ i = omega arith in
-        rw stored (rw (length-entries, e) at (getD-append-add (entries (reading xs) (differing xs ys)) (drop n places) (i - n) 0)
+        rw stored (rw (length-entries, e) at (getD-append-add (entries (toldBy xs) (differing xs ys)) (drop n places) (i - n) 0)
         ∙ getD-drop n places (i - n) 0 ∙ rw e)
 
 -- ---- a list of bytes
@@ -91,7 +90,7 @@ module _ (xs ys bytes : List ℕ) where
   unfolding listedBytes
   length-listed-bytes =
       let number = auditing xs ys (length bytes / 4) .number in
-      let es = entries (reading xs) (differing xs ys) in
+      let es = entries (toldBy xs) (differing xs ys) in
       elim (ℕ-discrete number 0) [
         | yes e ↦ rw (changed-so number (putAll 4 bytes 0 es) bytes e) (length-putAll 4 bytes 0 es)
         | no e ↦ rw (kept-so number (putAll 4 bytes 0 es) bytes e)
@@ -100,24 +99,24 @@ module _ (xs ys bytes : List ℕ) where
   module _ (ok : auditing xs ys (length bytes / 4) .number ≡ 0) where
     -- the four bytes of the i-th difference hold its entry
     pub bytes-are : (i : ℕ) → i < length (differing xs ys)
-        → le 4 (listedBytes xs ys bytes) (4 * i) ≡ entry (reading xs) (getD (differing xs ys) i 0)
+        → le 4 (listedBytes xs ys bytes) (4 * i) ≡ entry (toldBy xs) (getD (differing xs ys) i 0)
     unfolding listedBytes differing
     bytes-are i h =
-        let es = entries (reading xs) (differing xs ys) in
-        let n = length-entries (reading xs) (differing xs ys) in
+        let es = entries (toldBy xs) (differing xs ys) in
+        let n = length-entries (toldBy xs) (differing xs ys) in
         let room = fits xs ys (length bytes / 4) ok in
         let z : 0 + 4 * i ≡ 4 * i = omega arith in
         rw (changed-so (auditing xs ys (length bytes / 4) .number) (putAll 4 bytes 0 es) bytes ok)
         (rw z at (le-putAll 4 bytes 0 es i (omega arith) (omega arith))
-        ∙ mod-eq-of-lt (entries-small (reading xs) (reference xs ys) ys 0 (length xs)
-        (omega (arith, guaranteed xs (audit-accepted xs ys (length bytes / 4) ok .read))) i)
-        ∙ getD-entries (reading xs) (differing xs ys) i h)
+        ∙ mod-eq-of-lt (entries-small (toldBy xs) (reference xs ys) ys 0 (length xs)
+        (omega (arith, shared xs (audit-accepted xs ys (length bytes / 4) ok .read))) i)
+        ∙ getD-entries (toldBy xs) (differing xs ys) i h)
 
     -- bytes after the last entry stay, those after the last whole place among them
     pub byte-kept : (i : ℕ) → 4 * length (differing xs ys) ≤ i → getD (listedBytes xs ys bytes) i 0 ≡ getD bytes i 0
     unfolding listedBytes
     byte-kept i h =
-        let es = entries (reading xs) (differing xs ys) in
-        let n = length-entries (reading xs) (differing xs ys) in
+        let es = entries (toldBy xs) (differing xs ys) in
+        let n = length-entries (toldBy xs) (differing xs ys) in
         rw (changed-so (auditing xs ys (length bytes / 4) .number) (putAll 4 bytes 0 es) bytes ok)
         (putAll-above 4 bytes 0 es i (omega arith))

@@ -16,18 +16,26 @@ hasExtended revision = 6 ≤? revision
 abbrev pub reaches : ℕ → ℕ → Fact
 reaches revision L = deny (hasExtended revision) or 80 ≤? L
 
--- 5 HEADER: the mark `FSPH`; a header revision of at least 3; a length L of 72 to 256, or from 80 where the header has the extended number,
--- with which the section is not overrun
+-- request #109: which edition the header is of, by its revision byte
+abbrev pub older : List ℕ → ℕ → Fact
+older xs H = le 1 xs (H + 11) ≡? 1
+
+-- 5 HEADER, of an edition 1 header: a length L of 60 or 64
+abbrev pub olderLength : ℕ → Fact
+olderLength L = L ≡? 60 or L ≡? 64
+
+-- 5 HEADER, of an edition 2 header: a revision of at least 3; a length L of 72 to 256, or from 80 where the header has the extended number
+abbrev pub laterLength : ℕ → ℕ → Fact
+laterLength revision L = 3 ≤? revision and 72 ≤? L and L ≤? 256 and reaches revision L
+
+-- 5 HEADER: the mark `FSPH`; a length L with which the section is not overrun; and exactly one of the two editions
 abbrev pub headerFits : List ℕ → ℕ → ℕ → Fact
 headerFits xs H size =
     let L = le 4 xs (H + 4) in
     let revision = le 1 xs (H + 11) in
     le 4 xs H ≡? 0x48505346
-    and 3 ≤? revision
-    and 72 ≤? L
-    and L ≤? 256
     and 4 + L ≤? size
-    and reaches revision L
+    and ((older xs H and olderLength L) or laterLength revision L)
 
 -- 6 SIZE: the header names the length of what is lent
 abbrev pub sizeFits : List ℕ → ℕ → Fact

@@ -1,17 +1,23 @@
 -- Which bytes the rules 5 to 7 and the extended number look at, and how large that number can be.
 -- Assumes nothing.
 use Prim.Native.Nat.{ℕ, _+_, _^_, _≤_, _<_}
+use mathlib.Core.Bool.{Bool, true, false}
 use mathlib.Core.List.{List}
 use mathlib.Core.Path.{_≡_, sym, _∙_}
 use native.Mathlib.Omega.{arith}
 use native.Mathlib.Decide.{decLt}
 use lib.ListN.{length}
-use Rattle.facts.specs.Fact.{Holds, test}
+use Rattle.facts.specs.Fact.{Fact, Tells, Holds, test}
 use Rattle.facts.specs.FactLaws.{passes, fails}
 use Rattle.facts.specs.RulesLaws.{by-test}
 use Rattle.words.specs.Le.{le, Bytes, Alike}
 use Rattle.words.specs.LeLaws.{le-in, le-lt}
 use Rattle.header.specs.Header.{hasExtended, headerFits, sizeFits, component, extendedNumber}
+
+-- who tells of one check tells of another that amounts to it
+pub retell : {r : Bool} {p q : Fact} → Tells r p → (Holds p → Holds q) → (Holds q → Holds p) → Tells r q
+retell {r = true} t there back = record { says = there (t .says) }
+retell {r = false} t there back = record { says = λ h. t .says (back h) }
 
 -- the extended number where the header has one, and where it has none
 pub extended-there : (xs : List ℕ) (H : ℕ) → 6 ≤ le 1 xs (H + 11) → extendedNumber xs H ≡ le 2 xs (H + 76)

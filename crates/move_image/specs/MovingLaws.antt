@@ -23,8 +23,9 @@ use Rattle.inside_judge.specs.RulesLaws.{patches-count, patches-words, patches-
 use Rattle.move_modules.specs.Relocate.{shift, Movable}
 use Rattle.move_modules.specs.MovableLaws.{movable}
 use Rattle.answers.specs.declared.Reading.{Reading}
-use Rattle.reading_rules.specs.Reading.{entriesAt, fileAt, reading, Read}
-use Rattle.reading_rules.specs.Guarantee.{Guaranteed, guaranteed}
+use Rattle.reading_rules.specs.Reading.{entriesAt, fileAt, reading2, Read2}
+use Rattle.reading_rules.specs.Guarantee.{Guaranteed}
+use Rattle.reading_rules.specs.Edition.{guaranteed}
 use Rattle.reading_rules.specs.Words.{met, wordsOf}
 use Rattle.reading_rules.specs.WordsLaws.{widths, met-apart}
 use Rattle.reading_rules.specs.FrameBut.{AlikeBut, range, walked-but, words-but}
@@ -129,6 +130,6 @@ module _ (xs : List ℕ) (r : Reading) (g : Guaranteed xs r) where
       }
 
 -- images that agree but for words and settings, and read alike, have the same words
-pub same-words : (a b : List ℕ) → Read a → AlikeBut a b (reading a) → reading b ≡ reading a
-    → met b (reading b) ≡ met a (reading a)
-same-words a b ok but same = ap (λ (r : Reading). met b r) same ∙ sym (words-but a b (reading a) (guaranteed a ok) but)
+pub same-words : (a b : List ℕ) → Read2 a → AlikeBut a b (reading2 a) → reading2 b ≡ reading2 a
+    → met b (reading2 b) ≡ met a (reading2 a)
+same-words a b ok but same = ap (λ (r : Reading). met b r) same ∙ sym (words-but a b (reading2 a) (guaranteed a ok) but)

@@ -23,8 +23,8 @@ use Rattle.inside_walk.specs.Whole.{moduleIn, itemFor, spread, walked}
 use Rattle.inside_judge.specs.Rules.{patchFrom}
 use Rattle.reading_rules.specs.Words.{met}
 use Rattle.answers.specs.declared.Reading.{Reading}
-use Rattle.reading_rules.specs.Reading.{reading}
-use Rattle.reading_rules.specs.Small.{small, settingBytes, smallReading, small-reads}
+use Rattle.reading_rules.specs.Reading.{reading2}
+use Rattle.reading_rules.specs.Small.{small, settingBytes, smallReading, small-reads-2}
 use Rattle.moves.specs.Moves.{difference, movedTo}
 use Rattle.move_image.specs.Moving.{moveTo, movedImage}
 use Rattle.move_answer.specs.MoveAnswer.{acceptedMove}
@@ -41,8 +41,8 @@ small-moves a b = refl
 
 pub small-moved : movedImage maker 0x00100000 ≡ small 0x00100000 0x00100040 (settingBytes 0 1)
 unfolding movedImage
-small-moved = ap (λ (r : Reading). moveTo maker r 0x00100000) small-reads ∙ small-moves 0 1
+small-moved = ap (λ (r : Reading). moveTo maker r 0x00100000) small-reads-2 ∙ small-moves 0 1
 
 -- how far it goes: down by 4,293,394,432
-pub small-move : acceptedMove (reading maker) 0x00100000 ≡ record { number = 0; index = 0; distance = negsuc 4293394431 }
-small-move = ap (λ (r : Reading). acceptedMove r 0x00100000) small-reads
+pub small-move : acceptedMove (reading2 maker) 0x00100000 ≡ record { number = 0; index = 0; distance = negsuc 4293394431 }
+small-move = ap (λ (r : Reading). acceptedMove r 0x00100000) small-reads-2

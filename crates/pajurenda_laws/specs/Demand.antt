@@ -12,7 +12,7 @@ use Rattle.facts.specs.Fact.{Holds}
 use Rattle.facts.specs.Exactly.{Fails, Exact}
 use Rattle.words.specs.Le.{Bytes}
 use Rattle.header.specs.Base.{legalBase}
-use Rattle.reading_rules.specs.Reading.{reading, Read}
+use Rattle.reading_rules.specs.Reading.{reading, Older, Read2}
 use Rattle.reading_rules.specs.Numbers.{Numbered, None, OwnLookup, OwnRelease, OwnAudit, OwnList}
 use Rattle.answers.specs.declared.Moved.{Moved}
 use Rattle.release.specs.Release.{releasing}
@@ -20,7 +20,7 @@ use Rattle.answers.specs.declared.Audited.{Audited}
 use Rattle.audit.specs.Audit.{shippedBase, auditing}
 use Rattle.contents.specs.Listing.{contents}
 use Rattle.handoff_step.specs.Step.{stepRules}
-use Rattle.demands.specs.Demands.{Released-right, Audited-right}
+use Rattle.demands.specs.Demands.{Released-right, Audited-right, Explained-right, Plain-right}
 use Rattle.demands.specs.Stored.{inBytes}
 use Rattle.demands.specs.Exactly.{ReadFails, ReleaseFails, LookupFails, AuditFails, ListFails, sheetRules}
 use Rattle.c_answers.specs.Answers.{answered, moveFields, auditFields}
@@ -68,11 +68,19 @@ Demand2-C =
     → ReleaseCall xs s base o owner A r ys a → r ≡ 0
     → (m : Moved) × (a ≡ answered A (moveFields m)) × Released-right xs s base o owner m ys
 
--- ---- demand 3, of an audit whose answer has room: q is the answer that the buffer holds, and the result is its number
+-- ---- demand 3, of an audit whose answer has room: q is the answer that the buffer holds, and the result is its number; of edition 2 and of
+-- edition 1
 
-abbrev pub Demand3-C : Type 0
-Demand3-C =
-    (xs ys bytes A : List ℕ) (r : ℕ) (l a : List ℕ) → Bytes xs → Read xs → length ys ≡ length xs
+abbrev Demand3-C-by : (List ℕ → Type 0) → (List ℕ → List ℕ → List ℕ → Audited → List ℕ → List ℕ → Type 0) → Type 0
+Demand3-C-by Edition Right =
+    (xs ys bytes A : List ℕ) (r : ℕ) (l a : List ℕ) → Bytes xs → Edition xs → length ys ≡ length xs
     → Holds (legalBase (length xs) (shippedBase xs ys)) → AuditCall xs ys bytes A r l a
     → (NoRoom r A a × (l ≡ bytes))
-    ⊎ ((q : Audited) × (r ≡ q .number) × (a ≡ answered A (auditFields q)) × ((ks : List ℕ) × Audited-right inBytes xs ys bytes q l ks))
+    ⊎ ((q : Audited) × (r ≡ q .number) × (a ≡ answered A (auditFields q))
+    × ((ks : List ℕ) × Audited-right inBytes xs ys bytes q l ks × Right xs ys bytes q l ks))
+
+abbrev pub Demand3-C : Type 0
+Demand3-C = Demand3-C-by Read2 (λ xs ys bytes q l ks. Explained-right inBytes xs ys bytes q ks)
+
+abbrev pub Demand3-C-older : Type 0
+Demand3-C-older = Demand3-C-by Older (Plain-right inBytes)

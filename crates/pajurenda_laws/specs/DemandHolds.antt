@@ -30,14 +30,18 @@ use Rattle.contents.specs.Listing.{contents, contentsIn}
 use Rattle.contents.specs.Theorems.{listing-numbered, contents-kept}
 use Rattle.reading_rules.specs.Numbers.{OwnList}
 use Rattle.handoff_step.specs.Step.{stepRules, stepped}
-use Rattle.demands.specs.DemandsHold.{demand-2, demand-3}
+use Rattle.answers.specs.declared.Audited.{Audited}
+use Rattle.demands.specs.Demands.{Audited-right, Explained-right, Plain-right}
+use Rattle.demands.specs.Stored.{inBytes}
+use Rattle.demands.specs.DemandsHold.{demand-2, demand-3, demand-3-older}
 use Rattle.demands.specs.Exactly.{ReadFails, ReleaseFails, LookupFails, AuditFails, ListFails, sheetRules}
 use Rattle.demands.specs.ExactlyHolds.{read-exactly, release-exactly, lookup-exactly, audit-exactly, list-exactly, sheet-exactly, step-exactly}
 use Rattle.c_answers.specs.Steps.{stepFields}
 use Rattle.c_answers.specs.Answers.{ifRoom, result, answered, readFields, moveFields, sheetFields, settingFields, auditFields, listFields}
 use Rattle.setting.specs.Finding.{finding}
+use Rattle.pajurenda.specs.Promises.{AuditCall}
 use Rattle.c_answers.specs.AnswerLaws.{roomy, short}
-use Rattle.pajurenda_laws.specs.Demand.{Demand1-C, Demand2-C, Demand3-C, Exactly-C, NoRoom}
+use Rattle.pajurenda_laws.specs.Demand.{Demand1-C, Demand2-C, Demand3-C, Demand3-C-older, Exactly-C, NoRoom}
 
 -- ---- it holds
 
@@ -143,20 +147,33 @@ demand-2-C xs s base o owner A r ys a bx bs is zero =
     let image : ys ≡ releasedImage xs s base o owner = is .1 .0 ∙ roomy 3 A (releasedImage xs s base o owner) xs room in
     (m, is .1 .1, demand-2 xs s base o owner m ys bx bs (refl, image) ok)
 
+-- by what is shown of the list
+module _ (Right : List ℕ → List ℕ → List ℕ → Audited → List ℕ → List ℕ → Type 0) (xs ys bytes A : List ℕ) (r : ℕ) (l a : List ℕ)
+    (shown : l ≡ listedBytes xs ys bytes
+    → (ks : List ℕ) × Audited-right inBytes xs ys bytes (auditing xs ys (length bytes / 4)) l ks
+    × Right xs ys bytes (auditing xs ys (length bytes / 4)) l ks) where
+  call-3 : AuditCall xs ys bytes A r l a
+      → (NoRoom r A a × (l ≡ bytes))
+      ⊎ ((q : Audited) × (r ≡ q .number) × (a ≡ answered A (auditFields q))
+      × ((ks : List ℕ) × Audited-right inBytes xs ys bytes q l ks × Right xs ys bytes q l ks))
+  call-3 is =
+      let q = auditing xs ys (length bytes / 4) in
+      elim (decLt (length A) (8 * 7)) [
+        | yes none ↦ inl (
+          (is .0 ∙ short 7 A (q .number) 100 none, is .1 .1 ∙ short 7 A _ A none),
+          is .1 .0 ∙ short 7 A (listedBytes xs ys bytes) bytes none,
+        )
+        | no room ↦
+            let list : l ≡ listedBytes xs ys bytes = is .1 .0 ∙ roomy 7 A (listedBytes xs ys bytes) bytes (omega arith) in
+            inr (q, is .0 ∙ roomy 7 A (q .number) 100 (omega arith), is .1 .1, shown list)
+      ]
+
 pub demand-3-C : Demand3-C
-demand-3-C xs ys bytes A r l a bx ok long legal is =
-    let q = auditing xs ys (length bytes / 4) in
-    elim (decLt (length A) (8 * 7)) [
-      | yes none ↦ inl (
-        (is .0 ∙ short 7 A (q .number) 100 none, is .1 .1 ∙ short 7 A _ A none),
-        is .1 .0 ∙ short 7 A (listedBytes xs ys bytes) bytes none,
-      )
-      | no room ↦
-          let list : l ≡ listedBytes xs ys bytes = is .1 .0 ∙ roomy 7 A (listedBytes xs ys bytes) bytes (omega arith) in
-          inr (
-            q,
-            is .0 ∙ roomy 7 A (q .number) 100 (omega arith),
-            is .1 .1,
-            demand-3 .1 xs ys bytes q l bx ok long legal (refl, list),
-          )
-    ]
+demand-3-C xs ys bytes A r l a bx ok long legal =
+    call-3 (λ xs ys bytes q l ks. Explained-right inBytes xs ys bytes q ks) xs ys bytes A r l a
+    (λ list. demand-3 .1 xs ys bytes (auditing xs ys (length bytes / 4)) l bx ok long legal (refl, list))
+
+pub demand-3-C-older : Demand3-C-older
+demand-3-C-older xs ys bytes A r l a bx old long legal =
+    call-3 (Plain-right inBytes) xs ys bytes A r l a
+    (λ list. demand-3-older .1 xs ys bytes (auditing xs ys (length bytes / 4)) l bx old long legal (refl, list))

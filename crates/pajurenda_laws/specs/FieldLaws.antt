@@ -22,8 +22,9 @@ use Rattle.header.specs.HeaderLaws.{extended-small}
 use Rattle.header.specs.Base.{legalBase}
 use Rattle.answers.specs.declared.Identity.{Identity}
 use Rattle.answers.specs.declared.Reading.{Reading}
-use Rattle.reading_rules.specs.Reading.{identityAt, reading, Read}
-use Rattle.reading_rules.specs.Guarantee.{guaranteed}
+use Rattle.reading_rules.specs.Reading.{identityAt, reading, Read, reading2}
+use Rattle.reading_rules.specs.Guarantee.{shared, bare, guaranteed}
+use Rattle.reading_rules.specs.Edition as edition
 use Rattle.reading_rules.specs.Numbers.{Numbered}
 use Rattle.reading_rules.specs.NumbersLaws.{numbered, after-every, index-small, refused-is}
 use Rattle.answers.specs.declared.Moved.{Moved}
@@ -43,7 +44,7 @@ use Rattle.audit_count.specs.Differences.{differences, setting, settings, stray
 use Rattle.audit_count.specs.DifferenceLaws.{counts, few}
 use Rattle.audit_count.specs.FlipLaws.{flips-most}
 use Rattle.answers.specs.declared.Audited.{Audited}
-use Rattle.audit.specs.Audit.{reference, differing, refusedAudit, tally, auditing}
+use Rattle.audit.specs.Audit.{reference, toldBy, differing, refusedAudit, tally, auditing}
 use Rattle.audit.specs.AuditLaws.{audit-numbered}
 use Rattle.reading_rules.specs.Numbers.{OwnAudit}
 use Rattle.answers.specs.declared.Listed.{Listed}
@@ -67,7 +68,7 @@ small-at (x ∷ l) (h, t) zero = h
 small-at (x ∷ l) (h, t) (suc j) = small-at l t j
 
 -- a number of a call, and an index
-number-small : (xs : List ℕ) (own : ℕ → Type 0) (number index : ℕ) → ((k : ℕ) → own k → k ≤ 24) → Numbered xs own number index
+number-small : (xs : List ℕ) (own : ℕ → Type 0) (number index : ℕ) → ((k : ℕ) → own k → k ≤ 28) → Numbered xs own number index
     → number < 2 ^ 64
 number-small xs own number index most h =
     elim (h .known) [
@@ -103,10 +104,12 @@ read-refused xs b h =
       ),
     )
 
-read-accepted : (xs : List ℕ) → Bytes xs → Read xs → Small (readFields (reading xs))
+-- of either edition, where component, n and E are small
+fields-small : (xs : List ℕ) → Bytes xs → Read xs → reading xs .component < 2 ^ 64 → reading xs .n < 2 ^ 64 → reading xs .E < 2 ^ 64
+    → Small (readFields (reading xs))
 unfolding identityAt
-read-accepted xs b ok =
-    let g = guaranteed xs ok in
+fields-small xs b ok component n E =
+    let g = shared xs ok in
     let at = index-small xs _ _ _ b (numbered xs) in
     let image : reading xs .identity .image ≡ le 8 xs (reading xs .H + 16) = ap (λ (i : Identity). i .image) (g .identity-is) in
     let revision : reading xs .identity .revision ≡ le 4 xs (reading xs .H + 12) = ap (λ (i : Identity). i .revision) (g .identity-is) in
@@ -116,9 +119,9 @@ read-accepted xs b ok =
       (
         omega arith,
         (
-          omega (arith, g),
+          omega (arith, g .header-within, g .length-most),
           (
-            omega (arith, g),
+            component,
             (
               omega (arith, le-lt 8 xs (reading xs .H + 16) b),
               (
@@ -126,16 +129,10 @@ read-accepted xs b ok =
                 (
                   omega (arith, g .legal),
                   (
-                    omega (arith, g),
+                    omega (arith, g .c-is, le-lt 4 xs (reading xs .H + 36) b),
                     (
-                      omega (arith, g),
-                      (
-                        omega (arith, g),
-                        (
-                          omega (arith, g),
-                          (omega (arith, extended-small xs (reading xs .H) b), tt),
-                        ),
-                      ),
+                      omega (arith, g .z-is, le-lt 4 xs (reading xs .H + 40) b),
+                      (n, (E, (omega (arith, extended-small xs (reading xs .H) b), tt))),
                     ),
                   ),
                 ),
@@ -145,6 +142,14 @@ read-accepted xs b ok =
         ),
       ),
     )
+
+read-accepted : (xs : List ℕ) → Bytes xs → Read xs → Small (readFields (reading xs))
+read-accepted xs b ok =
+    elim (ℕ-discrete (reading xs .component) 0) [
+      | yes none ↦ let (c, n, E) = bare xs ok none in fields-small xs b ok (omega arith) (omega arith) (omega arith)
+      | no some ↦
+          let g = guaranteed xs (ok, omega (arith, some)) in fields-small xs b ok (omega (arith, g)) (omega (arith, g)) (omega (arith, g))
+    ]
 
 pub read-small : (xs : List ℕ) → Bytes xs → Small (readFields (reading xs))
 read-small xs b = elim (ℕ-discrete (reading xs .number) 0) [ yes ok ↦ read-accepted xs b ok | no h ↦ read-refused xs b h ]
@@ -165,7 +170,7 @@ unfolding releasing releaseRules nameRules twos
 release-small xs s base o owner b =
     let numbers = release-numbered xs s base o owner in
     let far : twos (releasing xs s base o owner .distance) < 2 ^ 64 =
-    after-every refusedMove (λ (m : Moved). twos (m .distance) < 2 ^ 64) xs _ (λ h. omega arith)
+    after-every refusedMove (λ (m : Moved). twos (m .distance) < 2 ^ 64) (reading2 xs) _ (λ h. omega arith)
     (λ ok. (
       (λ h. omega arith),
       λ h. (
@@ -174,16 +179,17 @@ release-small xs s base o owner b =
           (λ h. omega arith),
           λ h. (
             (λ h. omega arith),
-            λ h. ((λ h. omega arith), λ h. ((λ h. omega arith), λ legal. twos-small base (reading xs .base) (omega (arith, legal)))),
+            λ h. ((λ h. omega arith), λ h. ((λ h. omega arith), λ legal. twos-small base (reading2 xs .base) (omega (arith, legal)))),
           ),
         ),
       ),
     )) in
     (number-small xs OwnRelease _ _ own-most numbers, (omega (arith, index-small xs OwnRelease _ _ b numbers), (far, tt)))
   where
-    own-most : (k : ℕ) → OwnRelease k → k ≤ 24
+    own-most : (k : ℕ) → OwnRelease k → k ≤ 28
     own-most k (inl h) = omega arith
-    own-most k (inr h) = omega arith
+    own-most k (inr (inl h)) = omega arith
+    own-most k (inr (inr h)) = omega arith
 
 -- ---- a sheet by itself
 
@@ -204,13 +210,17 @@ find-small xs offset size =
     elim (ℕ-discrete (settingNumber xs offset size) 0) [
       | yes e ↦
           let (ok, fits) = setting-passed xs offset size e in
-          let g = guaranteed xs ok in
+          let g = edition.guaranteed xs ok in
           rw (found-accepted xs offset size e) (small, (omega (arith, g, fits), (omega (arith, g, fits), tt)))
       | no h ↦ rw (found-refused xs offset size h) (small, (omega arith, (omega arith, tt)))
     ]
   where
+    own-most : (k : ℕ) → OwnLookup k → k ≤ 28
+    own-most k (inl h) = omega arith
+    own-most k (inr h) = omega arith
+
     small : settingNumber xs offset size < 2 ^ 64
-    small = number-small xs OwnLookup _ _ (λ k o. omega arith) (lookup-numbered xs offset size)
+    small = number-small xs OwnLookup _ _ own-most (lookup-numbered xs offset size)
 
 -- ---- an audit
 
@@ -228,14 +238,14 @@ Counted a = (a .base < 2 ^ 64) × (a .settings < 2 ^ 64) × (a .strays < 2 ^ 64)
 counted : (xs ys : List ℕ) (room : ℕ) → Counted (auditing xs ys room)
 unfolding auditing tally differing
 counted xs ys room =
-    after-every refusedAudit Counted xs _ (λ h. (omega arith, omega arith, omega arith, omega arith))
+    after-every refusedAudit Counted (reading xs) _ (λ h. (omega arith, omega arith, omega arith, omega arith))
     (λ ok. (
       (λ h. (omega arith, omega arith, omega arith, omega arith)),
       λ pair. (
         (λ h. (omega arith, omega arith, omega arith, omega arith)),
         λ legal.
-            let g = guaranteed xs ok in
-            let r = reading xs in
+            let g = shared xs ok in
+            let r = toldBy xs in
             let ref = reference xs ys in
             let ks = differences ref ys 0 (length xs) in
             let most : length ks ≤ length xs = few ref ys 0 (length xs) in
@@ -275,13 +285,17 @@ Tallied a = (a .modules < 2 ^ 64) × (a .words < 2 ^ 64) × (a .entries < 2 ^ 64
 tallied : (xs : List ℕ) (room : ℕ) → Bytes xs → Tallied (contents xs room)
 unfolding contents
 tallied xs room b =
-    after-every refusedList Tallied xs _ (λ h. (omega arith, omega arith, omega arith))
+    after-every refusedList Tallied (reading2 xs) _ (λ h. (omega arith, omega arith, omega arith))
     (λ ok. let (m, w, e) = counts-few xs b ok in (omega (arith, m), omega (arith, w), omega (arith, e)))
 
 pub contents-small : (xs : List ℕ) (room : ℕ) → Bytes xs → Small (listFields (contents xs room))
 contents-small xs room b =
     let numbers = listing-numbered xs room in
     let (modules, words, entries) = tallied xs room b in (
-      number-small xs OwnList _ _ (λ k o. omega arith) numbers,
+      number-small xs OwnList _ _ own-most numbers,
       (omega (arith, index-small xs OwnList _ _ b numbers), (modules, (words, (entries, tt)))),
     )
+  where
+    own-most : (k : ℕ) → OwnList k → k ≤ 28
+    own-most k (inl h) = omega arith
+    own-most k (inr h) = omega arith

@@ -9,8 +9,8 @@ use Rattle.words.specs.Le.{le}
 use Rattle.words.specs.Put.{digit, put, putAll}
 use Rattle.words.specs.Number.{number, zeros}
 use Rattle.answers.specs.declared.Reading.{Reading}
-use Rattle.reading_rules.specs.Reading.{reading}
-use Rattle.reading_rules.specs.Small.{small, settingBytes, small-reads}
+use Rattle.reading_rules.specs.Reading.{reading, reading2}
+use Rattle.reading_rules.specs.Small.{small, settingBytes, small-reads, small-reads-2}
 use Rattle.answers.specs.declared.Moved.{Moved}
 use Rattle.sheet.specs.declared.SheetReading.{SheetReading}
 use Rattle.sheet.specs.Sheet.{bodyAt}
@@ -65,8 +65,8 @@ pub setting-answer : answered (zeros 24) (settingFields (finding maker 40 2)) �
 unfolding ifRoom test putAll put digit number zeros
 setting-answer =
     ap (λ (r : Found). answered (zeros 24) (settingFields r)) (found-accepted maker 40 2 small-found)
-    ∙ ap (λ (k : ℕ). answered (zeros 24) (settingFields (record { number = k; place = reading maker .c + 40; length = 2 }))) small-found
-    ∙ ap (λ (r : Reading). answered (zeros 24) (settingFields (record { number = 0; place = r .c + 40; length = 2 }))) small-reads
+    ∙ ap (λ (k : ℕ). answered (zeros 24) (settingFields (record { number = k; place = reading2 maker .c + 40; length = 2 }))) small-found
+    ∙ ap (λ (r : Reading). answered (zeros 24) (settingFields (record { number = 0; place = r .c + 40; length = 2 }))) small-reads-2
 
 -- number, index, base, settings, strays, bits, explained
 pub audit-answer : answered (zeros 56) (auditFields (auditing maker shipped 3))

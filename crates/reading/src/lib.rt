@@ -8,10 +8,10 @@ ghost use Rattle.facts.specs.Fact.{Holds};
 ghost use Rattle.facts.specs.Rules.{run};
 ghost use Rattle.words.specs.Le.{le};
 ghost use Rattle.volume.specs.Volume.{lengthFits, fileFits};
-ghost use Rattle.header.specs.Header.{component, componentFits};
+ghost use Rattle.header.specs.Header.{older, headerFits, component, componentFits};
 ghost use Rattle.inside_walk.specs.Walkable.{Walkable};
-ghost use Rattle.reading_rules.specs.Reading.{refusal, Reads};
-ghost use Rattle.reading_rules.specs.Stages.{fromPatch, fromTable, fromComponent, fromHeader, fromSection, fromFile, fromExtension, fromVolume};
+ghost use Rattle.reading_rules.specs.Reading.{refusal, Reads, Reads2};
+ghost use Rattle.reading_rules.specs.Stages.{fromPatch, fromTable, fromComponent, fromOlder, fromEdition, fromHeader, fromSection, fromFile, fromExtension, fromVolume};
 
 // 9, at the patch table.
 fn from_patch(image: &[u8], H: usize, p: usize, end: usize) -> Reading
@@ -54,9 +54,34 @@ fn from_component(image: &[u8], H: usize, p: usize, end: usize) -> Reading
     from_table(image, H, p, end)
 }
 
+// 8, of an edition 1 image (request #109).
+fn from_older(image: &[u8], H: usize) -> Reading
+    requires { ⌜ (H + 60 ≤ length (now image)) × Holds (older (now image) H) ⌝ }
+    ensures { λ r. ⌜ r ≡ run refusal (fromOlder (now (image .entry)) H) ⌝ }
+{
+    let base = words::le32(image, H + 28) as u64;
+    if !header::legal(base, image.len()) {
+        return reading_rules::refused(8, 0);
+    }
+    reading_rules::accept_older(image, H)
+}
+
+// What follows 6, by the edition.
+fn from_edition(image: &[u8], f: usize, size: usize) -> Reading
+    requires { ⌜ (64 ≤ size) × Holds (headerFits (now image) (f + 28) size) × (f + 24 + size ≤ length (now image)) × (length (now image) ≤ 16777216) × Walkable (now image) (le 8 (now image) 32) f ⌝ }
+    ensures { λ r. ⌜ r ≡ run refusal (fromEdition (now (image .entry)) f size) ⌝ }
+{
+    let H = f + 28;
+    if header::is_older(image, H) {
+        return from_older(image, H);
+    }
+    let L = words::le32(image, H + 4);
+    from_component(image, H, table::round_4(H + L), f + 24 + size)
+}
+
 // 5 and 6.
 fn from_header(image: &[u8], f: usize, size: usize) -> Reading
-    requires { ⌜ (76 ≤ size) × (f + 24 + size ≤ length (now image)) × (length (now image) ≤ 16777216) × Walkable (now image) (le 8 (now image) 32) f ⌝ }
+    requires { ⌜ (64 ≤ size) × (f + 24 + size ≤ length (now image)) × (length (now image) ≤ 16777216) × Walkable (now image) (le 8 (now image) 32) f ⌝ }
     ensures { λ r. ⌜ r ≡ run refusal (fromHeader (now (image .entry)) f size) ⌝ }
 {
     let H = f + 28;
@@ -66,8 +91,7 @@ fn from_header(image: &[u8], f: usize, size: usize) -> Reading
     if !header::size_fits(image, H) {
         return reading_rules::refused(6, 0);
     }
-    let L = words::le32(image, H + 4);
-    from_component(image, H, table::round_4(H + L), f + 24 + size)
+    from_edition(image, f, size)
 }
 
 // 4.
@@ -129,4 +153,18 @@ pub fn read(image: &[u8]) -> Reading
         return reading_rules::refused(1, 0);
     }
     from_volume(image)
+}
+
+// Request #109: the reading for a call that needs an edition 2 image, 28 for one of edition 1.
+pub fn read_2(image: &[u8]) -> Reading
+    ensures { λ r. ⌜ Reads2 (now (image .entry)) r ⌝ }
+{
+    let r = read(image);
+    if r.number != 0 {
+        return r;
+    }
+    if r.component == 0 {
+        return reading_rules::refused(28, 0);
+    }
+    r
 }

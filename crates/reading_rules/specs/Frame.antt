@@ -1,5 +1,5 @@
 -- The frame law: two images of one length that agree on every byte which the reading looks at, other than the base word, and whose base
--- words are both legal or both not, have the same reading but for the base.
+-- words are both legal or both not, have the same reading but for the base; but for c and z too where they are of edition 1.
 -- Assumes nothing.
 use Prim.Native.Nat.{ℕ, _+_, _-_, _*_, _≤_, _<_}
 use mathlib.Core.List.{List}
@@ -16,7 +16,7 @@ use Rattle.words.specs.Le.{le, Alike}
 use Rattle.words.specs.LeLaws.{alike-in, le-in}
 use Rattle.volume.specs.Volume.{lengthFits, volumeFits, extensionFits, fileFits, sectionFits}
 use Rattle.volume.specs.VolumeLaws.{volume-looks, extension-looks, file-looks, section-looks}
-use Rattle.header.specs.Header.{hasExtended, headerFits, sizeFits, component, extendedNumber, componentFits}
+use Rattle.header.specs.Header.{older, hasExtended, headerFits, sizeFits, component, extendedNumber, componentFits}
 use Rattle.header.specs.HeaderLaws.{header-looks, size-looks, component-looks, extended-number-looks}
 use Rattle.header.specs.Base.{legalBase}
 use Rattle.table.specs.Table.{extended, extendedFits, patchFits}
@@ -27,14 +27,14 @@ use Rattle.region.specs.RegionLaws.{region-looks, marks-looks}
 use Rattle.inside_walk.specs.Whole.{walked}
 use Rattle.inside_judge.specs.RulesLaws.{patches-cong}
 use Rattle.answers.specs.declared.Reading.{Reading}
-use Rattle.reading_rules.specs.Reading.{refusal, identityAt, accepted, rebased, reading}
-use Rattle.reading_rules.specs.Stages.{fromModules, fromEntries, fromRegion, fromPatch, fromTable, fromComponent, fromHeader, fromSection, fromFile, fromExtension, fromVolume, stages, by-stages}
+use Rattle.reading_rules.specs.Reading.{refusal, identityAt, accepted, olderAccepted, rebased, parted, reading}
+use Rattle.reading_rules.specs.Stages.{fromModules, fromEntries, fromRegion, fromPatch, fromTable, fromComponent, fromOlder, fromEdition, fromHeader, fromSection, fromFile, fromExtension, fromVolume, stages, by-stages}
 
--- s is r but for the base
+-- s is r but for the base, and for c and z, which an edition 1 reading doesn't judge
 abbrev pub Rebased : Reading → Reading → Type 0
-Rebased r s = s ≡ rebased r (s .base)
+Rebased r s = s ≡ parted (rebased r (s .base)) (s .c) (s .z)
 
--- the same rules on a and b, with answers that differ in the base alone
+-- the same rules on a and b, with such answers
 abbrev Together : Rules Reading → Rules Reading → Type 0
 Together s t = Same Rebased s t
 
@@ -81,17 +81,26 @@ module _ (a b : List ℕ) where
       → (test (legalBase (length a) (le 4 a (H + 28))) ≡ test (legalBase (length b) (le 4 b (H + 28))))
       × (Holds (legalBase (length a) (le 4 a (H + 28))) → AlikeTable H p end))
 
-  -- `FSPH`, L and the revision byte; the image size
+  -- of an edition 1 image: the base words are both legal or both not; revision byte, revision and identity
+  abbrev pub AlikeOlder : ℕ → Type 0
+  AlikeOlder H =
+      (test (legalBase (length a) (le 4 a (H + 28))) ≡ test (legalBase (length b) (le 4 b (H + 28))))
+      × Alike a b (H + 11) 13
+
+  -- `FSPH`, L and the revision byte; the image size; then as the edition has it
   abbrev pub AlikeHeader : ℕ → ℕ → Type 0
   AlikeHeader f size =
       let H = f + 28 in
       (Alike a b H 8 × Alike a b (H + 11) 1)
       × (Holds (headerFits a H size)
-      → Alike a b (H + 24) 4 × (Holds (sizeFits a H) → AlikeComponent H (round4 (H + le 4 a (H + 4))) (f + 24 + size)))
+      → Alike a b (H + 24) 4
+      × (Holds (sizeFits a H)
+      → (Holds (older a H) → AlikeOlder H)
+      × ((Holds (older a H) → ⊥) → AlikeComponent H (round4 (H + le 4 a (H + 4))) (f + 24 + size))))
 
-  -- the section's size and type
+  -- the section's size and type, and the revision byte of the header in it
   abbrev pub AlikeSection : ℕ → ℕ → Type 0
-  AlikeSection f s = Alike a b (f + 24) 4 × (Holds (sectionFits a f s) → AlikeHeader f (le 3 a (f + 24)))
+  AlikeSection f s = (Alike a b (f + 24) 4 × Alike a b (f + 39) 1) × (Holds (sectionFits a f s) → AlikeHeader f (le 3 a (f + 24)))
 
   -- the file's header, but for the bytes at f+17 and f+23
   abbrev pub AlikeFile : ℕ → ℕ → Type 0
@@ -190,8 +199,17 @@ module _ (a b : List ℕ) (long : length a ≡ length b) where
       let comp = component-looks a b H kind in
       (refl, rw comp, λ h. (refl, rest h .0, λ k. table H p end comp (rest h .1 k)))
 
+  older-on : (H : ℕ) → Holds (older a H) → AlikeOlder a b H → Together (fromOlder a H) (fromOlder b H)
+  unfolding fromOlder olderAccepted identityAt
+  older-on H old (legal, names) =
+      let image : le 8 a (H + 16) ≡ le 8 b (H + 16) = le-in names 8 (H + 16) (omega arith) (omega arith) in
+      let revision : le 4 a (H + 12) ≡ le 4 b (H + 12) = le-in names 4 (H + 12) (omega arith) (omega arith) in
+      let extended : extendedNumber a H ≡ extendedNumber b H =
+      extended-number-looks a b H (alike-in names (H + 11) 1 (omega arith) (omega arith)) (λ six. absurd (omega (arith, old, six))) in
+      (refl, legal, λ h. rw (image, revision, extended))
+
   header : (f size : ℕ) → AlikeHeader a b f size → Together (fromHeader a f size) (fromHeader b f size)
-  unfolding fromHeader
+  unfolding fromHeader fromEdition
   header f size ((head, revision), rest) =
       let H = f + 28 in (
         refl,
@@ -199,16 +217,20 @@ module _ (a b : List ℕ) (long : length a ≡ length b) where
         λ h. (
           refl,
           size-looks a b H long (rest h .0),
-          λ k. rw (← le-in head 4 (H + 4) (omega arith) (omega arith))
-              (component-on H (round4 (H + le 4 a (H + 4))) (f + 24 + size) (rest h .1 k)),
+          λ k. (
+            rw (le-in revision 1 (H + 11) (omega arith) (omega arith)),
+            (λ old. older-on H old (rest h .1 k .0 old)),
+            λ new. rw (← le-in head 4 (H + 4) (omega arith) (omega arith))
+                (component-on H (round4 (H + le 4 a (H + 4))) (f + 24 + size) (rest h .1 k .1 new)),
+          ),
         ),
       )
 
   section : (f s : ℕ) → AlikeSection a b f s → Together (fromSection a f s) (fromSection b f s)
   unfolding fromSection
-  section f s (head, rest) = (
+  section f s ((head, revision), rest) = (
     refl,
-    section-looks a b f s head,
+    section-looks a b f s head revision,
     λ h. rw (← le-in head 3 (f + 24) (omega arith) (omega arith))
         (header f (le 3 a (f + 24)) (rest h)),
   )

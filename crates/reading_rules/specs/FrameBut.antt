@@ -26,17 +26,16 @@ use Rattle.inside_walk.specs.WholeFrame.{walked-cong}
 use Rattle.inside_judge.specs.Rules.{patchItems}
 use Rattle.inside_judge.specs.RulesLaws.{patches-cong}
 use Rattle.answers.specs.declared.Reading.{Reading}
-use Rattle.reading_rules.specs.Reading.{entriesAt, fileAt, rebased, reading, Read}
-use Rattle.reading_rules.specs.Guarantee.{Guaranteed, guaranteed}
+use Rattle.reading_rules.specs.Reading.{entriesAt, fileAt, rebased, reading}
+use Rattle.reading_rules.specs.Guarantee.{Later, Guaranteed, guaranteed}
 use Rattle.reading_rules.specs.FrameBelow.{AlikeBelow, Framed, framed, frame-below}
 use Rattle.reading_rules.specs.Words.{met, wordsOf}
 use Rattle.reading_rules.specs.WordsLaws.{walked-starts, met-apart, beside}
-use Rattle.reading_rules.specs.Settings.{OutsideSettings}
 
 -- a and b agree but for the words of a move and the settings
 pub record AlikeBut (a b : List ℕ) (r : Reading) : Type 0 where
   pub long : length a ≡ length b
-  pub same : (k : ℕ) → Beside (wordsOf a r) (wordsOf a r .count) k → OutsideSettings r k → getD a k 0 ≡ getD b k 0
+  pub same : (k : ℕ) → Beside (wordsOf a r) (wordsOf a r .count) k → (k < r .c + 32) ⊎ (r .c + r .z ≤ k) → getD a k 0 ≡ getD b k 0
 
 module _ (a b : List ℕ) (r : Reading) (g : Guaranteed a r) (but : AlikeBut a b r) where
   -- what stands below E, but for the base word, and in the region's header
@@ -86,7 +85,7 @@ module _ (a b : List ℕ) (r : Reading) (g : Guaranteed a r) (but : AlikeBut a b
       table = record { same = λ j l. plain (entriesAt r + j) (inr (omega (arith, g))) (inl (omega (arith, g))) }
 
 -- the reading is the same but for the base, which is the other's own base word
-pub frame-but : (a b : List ℕ) → Read a → AlikeBut a b (reading a)
+pub frame-but : (a b : List ℕ) → Later a → AlikeBut a b (reading a)
     → Holds (legalBase (length b) (le 4 b (reading a .H + 28))) → reading b ≡ rebased (reading a) (le 4 b (reading a .H + 28))
 frame-but a b e but legal =
     let g = guaranteed a e in
@@ -103,7 +102,7 @@ kept-from a b n (x ∷ l) same (h, t) = ((λ other. now h), kept-from a b n l sa
     now (inr z) = record { same = λ j l. same (x .at + j) (omega arith) }
 
 -- below header revision 6, where the header's own bytes stand at H+76 and H+77, no reading looks at those two
-pub unlooked : (a b : List ℕ) → Read a → le 1 a (reading a .H + 11) < 6 → 78 ≤ le 4 a (reading a .H + 4)
+pub unlooked : (a b : List ℕ) → Later a → le 1 a (reading a .H + 11) < 6 → 78 ≤ le 4 a (reading a .H + 4)
     → length a ≡ length b
     → ((k : ℕ) → (k < reading a .H + 76) ⊎ (reading a .H + 78 ≤ k) → getD a k 0 ≡ getD b k 0) → reading b ≡ reading a
 unlooked a b e below wide long same =

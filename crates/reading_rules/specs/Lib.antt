@@ -7,6 +7,7 @@ pub mod FrameBelow
 pub mod Words
 pub mod WordsLaws
 pub mod FrameBut
+pub mod Edition
 pub mod Small
 pub mod SmallPE
 pub mod Damaged

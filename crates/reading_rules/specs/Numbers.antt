@@ -24,18 +24,22 @@ pub record Numbered (xs : List ℕ) (own : ℕ → Type 0) (number index : ℕ) 
 abbrev pub None : ℕ → Type 0
 None k = ⊥
 
--- those of a release: 15 to 18, 23 and 24
-abbrev pub OwnRelease : ℕ → Type 0
-OwnRelease k = ((15 ≤ k) × (k ≤ 18)) ⊎ ((23 ≤ k) × (k ≤ 24))
+-- request #109: 28 of what needs an edition 2 image
+abbrev pub ReadOnly : ℕ → Type 0
+ReadOnly k = k ≡ 28
 
--- of a lookup: 17
+-- those of a release: 28, 15 to 18, 23 and 24
+abbrev pub OwnRelease : ℕ → Type 0
+OwnRelease k = ReadOnly k ⊎ (((15 ≤ k) × (k ≤ 18)) ⊎ ((23 ≤ k) × (k ≤ 24)))
+
+-- of a lookup: 28 and 17
 abbrev pub OwnLookup : ℕ → Type 0
-OwnLookup k = k ≡ 17
+OwnLookup k = ReadOnly k ⊎ (k ≡ 17)
 
 -- of an audit: 18, 19 and 20
 abbrev pub OwnAudit : ℕ → Type 0
 OwnAudit k = (18 ≤ k) × (k ≤ 20)
 
--- of the list of what an image holds: 20
+-- of the list of what an image holds: 28 and 20
 abbrev pub OwnList : ℕ → Type 0
-OwnList k = k ≡ 20
+OwnList k = ReadOnly k ⊎ (k ≡ 20)

@@ -2,17 +2,17 @@
 -- its 25 to 27 after them. The checks themselves stand in the crates of the layers: `Volume` (1 to 4), `Header` and `Base` (5 to 8), `Table`
 -- (9), `Region` (10, 11), `Entry` and `Passes` (12 to 14, 22), `Rules` of `inside_judge` (25 to 27).
 -- Assumes nothing.
-use Prim.Native.Nat.{ℕ, _+_, _-_, _*_}
+use Prim.Native.Nat.{ℕ, _+_, _-_, _*_, _≤_}
 use mathlib.Core.Bool.{cond}
 use mathlib.Core.List.{List}
 use mathlib.Core.Path.{_≡_}
 use lib.ListN.{length}
 use Rattle.words.specs.Round.{round8, round4}
-use Rattle.facts.specs.Fact.{Fact, _≡?_, deny, _or_, test}
-use Rattle.facts.specs.Rules.{Rules, answer, rule, pass, run}
+use Rattle.facts.specs.Fact.{Fact, _and_, _≡?_, deny, _or_, test, Holds}
+use Rattle.facts.specs.Rules.{Rules, answer, rule, pass, choose, run}
 use Rattle.words.specs.Le.{le}
 use Rattle.volume.specs.Volume.{lengthFits, volumeFits, extensionFits, fileFits, sectionFits}
-use Rattle.header.specs.Header.{headerFits, sizeFits, component, extendedNumber, componentFits}
+use Rattle.header.specs.Header.{older, headerFits, sizeFits, component, extendedNumber, componentFits}
 use Rattle.header.specs.Base.{legalBase}
 use Rattle.table.specs.Table.{extended, extendedFits, patchFits}
 use Rattle.table.specs.Passes.{place, unrefused, clear}
@@ -59,6 +59,22 @@ accepted xs H t n c z =
       E = t + 4 * n;
     }
 
+-- an accepted reading of an edition 1 image (request #109): c and z as they stand, judged by nobody; no component, no entries
+unfoldable pub olderAccepted : List ℕ → ℕ → Reading
+olderAccepted xs H =
+    record {
+      number = 0;
+      index = 0;
+      H = H;
+      component = 0;
+      identity = identityAt xs H;
+      base = le 4 xs (H + 28);
+      c = le 4 xs (H + 36);
+      z = le 4 xs (H + 40);
+      n = 0;
+      E = 0;
+    }
+
 -- r with another base
 abbrev pub rebased : Reading → ℕ → Reading
 rebased r w =
@@ -71,6 +87,22 @@ rebased r w =
       base = w;
       c = r .c;
       z = r .z;
+      n = r .n;
+      E = r .E;
+    }
+
+-- r with another c and z
+abbrev pub parted : Reading → ℕ → ℕ → Reading
+parted r c z =
+    record {
+      number = r .number;
+      index = r .index;
+      H = r .H;
+      component = r .component;
+      identity = r .identity;
+      base = r .base;
+      c = c;
+      z = z;
       n = r .n;
       E = r .E;
     }
@@ -147,7 +179,11 @@ module _ (xs : List ℕ) where
   abbrev pub z : ℕ
   z = le 4 xs (H + 40)
 
-  -- ---- the rules
+  -- ---- the rules; after 6 the editions go apart (request #109)
+
+  -- 8 BASE, of either edition
+  abbrev pub based : Fact
+  based = legalBase (length xs) (le 4 xs (H + 28))
 
   unfoldable pub rules : Rules Reading
   rules =
@@ -158,8 +194,10 @@ module _ (xs : List ℕ) where
       (rule 4 (sectionFits xs f s)
       (rule 5 (headerFits xs H section)
       (rule 6 (sizeFits xs H)
+      (choose (older xs H)
+      (rule 8 based (answer (olderAccepted xs H)))
       (rule 7 (componentFits (component xs H))
-      (rule 8 (legalBase (length xs) (le 4 xs (H + 28)))
+      (rule 8 based
       (rule 9 (deny (extended xs next end) or extendedFits xs next end)
       (rule 9 (patchFits xs p end)
       (rule 10 (regionFits xs E c z)
@@ -171,7 +209,7 @@ module _ (xs : List ℕ) where
       (rule 25 (modulesFit xs v f c z)
       (rule 26 (wordsFit xs v f t n c z)
       (rule 27 (typesFit xs v f)
-      (answer (accepted xs H t n c z)))))))))))))))))))))
+      (answer (accepted xs H t n c z))))))))))))))))))))))
 
   -- the reading
   unfoldable pub reading : Reading
@@ -184,3 +222,25 @@ Read xs = reading xs .number ≡ 0
 -- the promise of `read`
 abbrev pub Reads : List ℕ → Reading → Type 0
 Reads xs r = r ≡ reading xs
+
+-- ---- request #109: what needs an edition 2 image
+
+-- r is the reading of an edition 1 image: it has no component
+abbrev pub edition1 : Reading → Fact
+edition1 r = r .number ≡? 0 and r .component ≡? 0
+
+-- the image reads as edition 1
+abbrev pub Older : List ℕ → Type 0
+Older xs = Holds (edition1 (reading xs))
+
+-- 28 READ-ONLY: the reading for a call that sets, moves, lists or looks up; an edition 1 image is refused
+unfoldable pub reading2 : List ℕ → Reading
+reading2 xs = cond (test (edition1 (reading xs))) (refusal 28 0) (reading xs)
+
+-- the image reads as edition 2
+abbrev pub Read2 : List ℕ → Type 0
+Read2 xs = reading2 xs .number ≡ 0
+
+-- the promise of `read_2`
+abbrev pub Reads2 : List ℕ → Reading → Type 0
+Reads2 xs r = r ≡ reading2 xs

@@ -5,6 +5,7 @@
 use Prim.Native.Nat.{ℕ, suc, _+_, _-_, _^_}
 use mathlib.Core.List.{List, [], _∷_, _++_}
 use mathlib.Core.Path.{_≡_, refl}
+use native.Mathlib.Omega.{arith}
 use lib.ListN.{length}
 use Rattle.facts.specs.Fact.{test, allBelow}
 use Rattle.facts.specs.First.{firstFault, firstFrom}
@@ -26,7 +27,8 @@ use Rattle.inside_blocks.specs.Blocks.{headItem, headsFrom, headCount, wordOf, 
 use Rattle.inside_walk.specs.Whole.{moduleIn, itemFor, spread, walked}
 use Rattle.inside_judge.specs.Rules.{patchFrom}
 use Rattle.answers.specs.declared.Reading.{Reading}
-use Rattle.reading_rules.specs.Reading.{refusal, identityAt, accepted, rules, reading, f, p}
+use Rattle.reading_rules.specs.Reading.{refusal, identityAt, accepted, rules, reading, f, p, reading2}
+use Rattle.reading_rules.specs.Edition.{read2-as}
 
 -- bytes 0..71, the volume's header: its length, its mark, h, the word that makes the sum 0, and x
 abbrev pub volume : ℕ → ℕ → List ℕ
@@ -151,3 +153,13 @@ unfolding later number zeros digit le reading rules run f p test allBelow firstF
     each apartFrom patchFrom walked spread moduleIn itemFor items sectionsFrom sectionsAt filesFrom firstAt firstPlace files.ahead
     rowAt judged teOf moduleOf shifted found headItem headsFrom headCount wordOf itemOf entriesFrom blocksFrom
 five-reads any = refl
+
+-- they are of edition 2 (request #109)
+pub small-reads-2 : reading2 (small 0xFFF80000 0xFFF80040 (settingBytes 0 1)) ≡ smallReading
+small-reads-2 = read2-as (small 0xFFF80000 0xFFF80040 (settingBytes 0 1)) smallReading small-reads refl (omega arith)
+
+pub six-reads-2 : reading2 (later 80 6 0x0201 (settingBytes 0 1)) ≡ laterReading 0x0201
+six-reads-2 = read2-as (later 80 6 0x0201 (settingBytes 0 1)) (laterReading 0x0201) six-reads refl (omega arith)
+
+pub five-reads-2 : (any : ℕ) → reading2 (later 79 5 any (settingBytes 0 1)) ≡ laterReading 0
+five-reads-2 any = read2-as (later 79 5 any (settingBytes 0 1)) (laterReading 0) (five-reads any) refl (omega arith)

@@ -13,7 +13,7 @@ use Rattle.facts.specs.Fact.{_≡?_, deny, _or_, test}
 use Rattle.facts.specs.Rules.{Rules, answer, rule, pass, choose, run}
 use Rattle.words.specs.Le.{le}
 use Rattle.volume.specs.Volume.{lengthFits, volumeFits, extensionFits, fileFits, sectionFits}
-use Rattle.header.specs.Header.{headerFits, sizeFits, component, componentFits}
+use Rattle.header.specs.Header.{older, headerFits, sizeFits, component, componentFits}
 use Rattle.header.specs.Base.{legalBase}
 use Rattle.table.specs.Table.{extended, extendedFits, patchFits}
 use Rattle.table.specs.Passes.{unrefused, clear}
@@ -22,7 +22,7 @@ use Rattle.inside_judge.specs.Rules.{modulesFit, wordsFit, typesFit}
 use Rattle.inside_rules.specs.Contents.{contentsNumber}
 use Rattle.answers.specs.declared.Reading.{Reading}
 use Rattle.reading_rules.specs.Reading as the
-use Rattle.reading_rules.specs.Reading.{refusal, accepted, rules, reading}
+use Rattle.reading_rules.specs.Reading.{refusal, accepted, olderAccepted, rules, reading}
 
 -- 25, 26, 27
 unfoldable pub fromModules : List ℕ → ℕ → ℕ → ℕ → ℕ → ℕ → Rules Reading
@@ -62,11 +62,19 @@ unfoldable pub fromComponent : List ℕ → ℕ → ℕ → ℕ → Rules Readin
 fromComponent xs H p end =
     rule 7 (componentFits (component xs H)) (rule 8 (legalBase (length xs) (le 4 xs (H + 28))) (fromTable xs H p end))
 
+-- 8, of an edition 1 image
+unfoldable pub fromOlder : List ℕ → ℕ → Rules Reading
+fromOlder xs H = rule 8 (legalBase (length xs) (le 4 xs (H + 28))) (answer (olderAccepted xs H))
+
+-- the editions go apart
+unfoldable pub fromEdition : List ℕ → ℕ → ℕ → Rules Reading
+fromEdition xs f size =
+    let H = f + 28 in
+    choose (older xs H) (fromOlder xs H) (fromComponent xs H (round4 (H + le 4 xs (H + 4))) (f + 24 + size))
+
 -- 5, 6
 unfoldable pub fromHeader : List ℕ → ℕ → ℕ → Rules Reading
-fromHeader xs f size =
-    let H = f + 28 in
-    rule 5 (headerFits xs H size) (rule 6 (sizeFits xs H) (fromComponent xs H (round4 (H + le 4 xs (H + 4))) (f + 24 + size)))
+fromHeader xs f size = let H = f + 28 in rule 5 (headerFits xs H size) (rule 6 (sizeFits xs H) (fromEdition xs f size))
 
 -- 4
 unfoldable pub fromSection : List ℕ → ℕ → ℕ → Rules Reading
@@ -131,7 +139,7 @@ module _ (xs : List ℕ) where
   back = omega arith
 
   pub by-stages : reading xs ≡ run refusal (stages xs)
-  unfolding reading rules stages fromVolume fromFile fromSection fromHeader fromComponent fromPatch fromRegion fromEntries fromModules run
+  unfolding reading rules stages fromVolume fromFile fromSection fromHeader fromEdition fromOlder fromComponent fromPatch fromRegion fromEntries fromModules run
   by-stages = rw (extension, table, back)
 
 -- ---- 25, 26 and 27 by the number of the first that isn't passed

@@ -4,7 +4,7 @@ use Prim.Native.Nat.{ℕ}
 use mathlib.Core.List.{List}
 use mathlib.Core.Path.{_≡_}
 use lib.ListN.{length}
-use Rattle.reading_rules.specs.Reading.{reading}
+use Rattle.reading_rules.specs.Reading.{reading2}
 use Rattle.answers.specs.After.{afterReading, unlessRefused}
 use Rattle.answers.specs.declared.Moved.{Moved}
 use Rattle.move_image.specs.Moving.{moveTo}
@@ -14,11 +14,11 @@ use Rattle.release_judge.specs.Judged.{releaseRules}
 
 -- the answer of a release: the image's refusals come first
 unfoldable pub releasing : List ℕ → List ℕ → ℕ → List ℕ → ℕ → Moved
-releasing xs s base o owner = afterReading refusedMove (reading xs) (releaseRules (reading xs) (length xs) s base o owner)
+releasing xs s base o owner = afterReading refusedMove (reading2 xs) (releaseRules (reading2 xs) (length xs) s base o owner)
 
 -- the two steps: the sheet's bytes are set, then the image is moved
 unfoldable pub twoSteps : List ℕ → List ℕ → ℕ → List ℕ
-twoSteps xs s base = moveTo (setBy xs (reading xs) s) (reading xs) base
+twoSteps xs s base = moveTo (setBy xs (reading2 xs) s) (reading2 xs) base
 
 -- the image afterwards: set and moved, or what it was where the release is refused
 unfoldable pub releasedImage : List ℕ → List ℕ → ℕ → List ℕ → ℕ → List ℕ

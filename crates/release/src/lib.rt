@@ -6,7 +6,7 @@ ghost use Rattle.release.specs.Release.{Releases};
 pub fn release(image: &mut [u8], sheet: &[u8], base: u64, owners: &[u8], owner: u64) -> Moved
     ensures { λ m. ⌜ Releases (now (image .entry)) (now (sheet .entry)) base (now (owners .entry)) owner m (now (image .exit)) ⌝ }
 {
-    let r = reading::read(image);
+    let r = reading::read_2(image);
     if r.number != 0 {
         return move_answer::refused(r.number, r.index);
     }

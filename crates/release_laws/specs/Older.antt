@@ -14,8 +14,8 @@ use Rattle.header.specs.HeaderLaws.{extended-none}
 use Rattle.header.specs.Base.{legalBase}
 use Rattle.answers.specs.declared.Identity.{Identity}
 use Rattle.answers.specs.declared.Reading.{Reading}
-use Rattle.reading_rules.specs.Reading.{identityAt, reading, Read}
-use Rattle.reading_rules.specs.Guarantee.{guaranteed}
+use Rattle.reading_rules.specs.Reading.{identityAt, reading2, Read2}
+use Rattle.reading_rules.specs.Edition.{guaranteed}
 use Rattle.answers.specs.declared.Moved.{Moved}
 use Rattle.move_answer.specs.MoveAnswer.{refusedMove, acceptedMove}
 use Rattle.sheet.specs.Sheet.{sheetIdentity, count, contentsFit, bodiesFit, sheetFits, sameIdentity, fieldFits}
@@ -51,17 +51,17 @@ pub older-contents : (s : List ℕ) → Holds (olderContents s) → Holds (conte
 older-contents s h = (h .0, (h .1 .0, (h .1 .1 .0, h .1 .1 .1 .1)))
 
 -- an image below header revision 6 has no extended number
-pub below-six : (xs : List ℕ) → Read xs → le 1 xs (reading xs .H + 11) < 6 → reading xs .identity .extended ≡ 0
+pub below-six : (xs : List ℕ) → Read2 xs → le 1 xs (reading2 xs .H + 11) < 6 → reading2 xs .identity .extended ≡ 0
 unfolding identityAt
-below-six xs ok below = ap (λ (i : Identity). i .extended) (guaranteed xs ok .identity-is) ∙ extended-none xs (reading xs .H) below
+below-six xs ok below = ap (λ (i : Identity). i .extended) (guaranteed xs ok .identity-is) ∙ extended-none xs (reading2 xs .H) below
 
 -- an older sheet is answered as before where the image's extended number is 0
-pub older-as-before : (xs s : List ℕ) (base : ℕ) (o : List ℕ) (owner : ℕ) → Read xs → Older s
-    → reading xs .identity .extended ≡ 0
-    → releasing xs s base o owner ≡ run refusedMove (olderRules (reading xs) (length xs) s base o owner)
+pub older-as-before : (xs s : List ℕ) (base : ℕ) (o : List ℕ) (owner : ℕ) → Read2 xs → Older s
+    → reading2 xs .identity .extended ≡ 0
+    → releasing xs s base o owner ≡ run refusedMove (olderRules (reading2 xs) (length xs) s base o owner)
 unfolding run releaseRules nameRules
 older-as-before xs s base o owner ok old none =
-    let i = reading xs .identity in
+    let i = reading2 xs .identity in
     release-judged xs s base o owner ok
     ∙ rw (
       same-test (sheetFits s) (olderContents s and bodiesFit s)
@@ -71,15 +71,15 @@ older-as-before xs s base o owner ok old none =
     )
 
 -- and refused with 16, once it passes 15 and the list is good, where it is another
-pub older-refused : (xs s : List ℕ) (base : ℕ) (o : List ℕ) (owner : ℕ) → Read xs → Older s → Holds (sheetFits s)
-    → Holds (ownersFit o owner (reading xs .z))
-    → (reading xs .identity .extended ≡ 0 → ⊥)
+pub older-refused : (xs s : List ℕ) (base : ℕ) (o : List ℕ) (owner : ℕ) → Read2 xs → Older s → Holds (sheetFits s)
+    → Holds (ownersFit o owner (reading2 xs .z))
+    → (reading2 xs .identity .extended ≡ 0 → ⊥)
     → releasing xs s base o owner ≡ refusedMove 16 0
 unfolding run releaseRules nameRules
 older-refused xs s base o owner ok old fits good other =
     release-judged xs s base o owner ok
     ∙ rw (
       passes (sheetFits s) fits,
-      passes (ownersFit o owner (reading xs .z)) good,
-      fails (sameIdentity (sheetIdentity s) (reading xs .identity)) (λ h. other (sym (h .1 .1) ∙ old)),
+      passes (ownersFit o owner (reading2 xs .z)) good,
+      fails (sameIdentity (sheetIdentity s) (reading2 xs .identity)) (λ h. other (sym (h .1 .1) ∙ old)),
     )

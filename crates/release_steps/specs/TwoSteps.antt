@@ -12,8 +12,8 @@ use Rattle.words.specs.LeLaws.{le-cong}
 use Rattle.header.specs.Base.{legalBase}
 use Rattle.answers.specs.declared.Reading.{Reading}
 use Rattle.reading_rules.specs.Words.{met}
-use Rattle.reading_rules.specs.Reading.{reading, Read}
-use Rattle.reading_rules.specs.Guarantee.{guaranteed}
+use Rattle.reading_rules.specs.Reading.{reading2, Read2}
+use Rattle.reading_rules.specs.Edition.{guaranteed}
 use Rattle.reading_rules.specs.WordsLaws.{words-outside}
 use Rattle.moves.specs.Moves.{Words, difference}
 use Rattle.moves.specs.MovesLaws.{by-words}
@@ -23,10 +23,10 @@ use Rattle.release_steps.specs.MoveStep.{unmoved-byte, moved-number, len
 use Rattle.release_steps.specs.SetStep.{kept-outside, length-after-set, bytes-after-set, set-reads, words-stay, read-after, fits-alike, same-byte}
 
 -- no byte of a word of a move lies in the settings part
-pub word-kept : (xs ys s : List ℕ) → Read xs → Fits ys s → reading ys .c ≡ reading xs .c
-    → reading ys .z ≡ reading xs .z
+pub word-kept : (xs ys s : List ℕ) → Read2 xs → Fits ys s → reading2 ys .c ≡ reading2 xs .c
+    → reading2 ys .z ≡ reading2 xs .z
     → (j : ℕ) → j < movedWords xs .count → Alike (setImage ys s) ys (movedWords xs .at j) (movedWords xs .width j)
-word-kept xs ys s fine ok c z j h = go (words-outside xs (reading xs) (guaranteed xs fine) j h)
+word-kept xs ys s fine ok c z j h = go (words-outside xs (reading2 xs) (guaranteed xs fine) j h)
   where
     w : ℕ
     w = movedWords xs .at j
@@ -34,7 +34,7 @@ word-kept xs ys s fine ok c z j h = go (words-outside xs (reading xs) (guarantee
     m : ℕ
     m = movedWords xs .width j
 
-    go : (w + m ≤ reading xs .c) ⊎ (reading xs .c + reading xs .z ≤ w) → Alike (setImage ys s) ys w m
+    go : (w + m ≤ reading2 xs .c) ⊎ (reading2 xs .c + reading2 xs .z ≤ w) → Alike (setImage ys s) ys w m
     go (inl a) = record { same = λ k l. kept-outside ys s ok (w + k) (inl (omega arith)) }
     go (inr a) = record { same = λ k l. kept-outside ys s ok (w + k) (inr (omega arith)) }
 
@@ -49,7 +49,7 @@ fits-moved xs s base bx ok legal =
 pub commute : (xs s : List ℕ) (base : ℕ) → Bytes xs → Bytes s → Fits xs s → Holds (legalBase (length xs) base)
     → setImage (movedImage xs base) s ≡ movedImage (setImage xs s) base
 commute xs s base bx bs ok legal =
-    let r = reading xs in
+    let r = reading2 xs in
     let ms = movedImage xs base in
     let ys = setImage xs s in
     let fine = ok .read in
@@ -59,12 +59,12 @@ commute xs s base bx bs ok legal =
     let bm = bytes-after xs bx fine base legal in
     let by = bytes-after-set xs s ok bx bs in
     let reads = moved-reads xs bx fine base legal in
-    let c : reading ms .c ≡ r .c = ap (λ (r : Reading). r .c) reads in
-    let z : reading ms .z ≡ r .z = ap (λ (r : Reading). r .z) reads in
+    let c : reading2 ms .c ≡ r .c = ap (λ (r : Reading). r .c) reads in
+    let z : reading2 ms .z ≡ r .z = ap (λ (r : Reading). r .z) reads in
     let long =
     length-after-set ms s ok′ ∙ length-after xs bx fine base legal ∙ sym (length-after-set xs s ok) ∙ sym
     (length-after ys by fine′ base legal′) in
-    let same : met ys (reading ys) ≡ met xs (reading xs) = words-stay xs s ok in
+    let same : met ys (reading2 ys) ≡ met xs (reading2 xs) = words-stay xs s ok in
     by-words (setImage ms s) (movedImage ys base) (movedWords xs) long (bytes-after-set ms s ok′ bm bs)
     (bytes-after ys by fine′ base legal′)
     (λ k out.

@@ -10,7 +10,7 @@ use Rattle.words.specs.Le.{le, Bytes}
 use Rattle.words.specs.Number.{number}
 use Rattle.header.specs.Base.{legalBase}
 use Rattle.table.specs.Entry.{placeOf}
-use Rattle.reading_rules.specs.Reading.{rebased, refusal, reading, Read}
+use Rattle.reading_rules.specs.Reading.{rebased, refusal, reading2, Read2}
 use Rattle.moves.specs.Moves.{difference}
 use Rattle.move_image.specs.Moving.{movedWords}
 use Rattle.move_answer.specs.MoveAnswer.{refusedMove, acceptedMove}
@@ -54,30 +54,30 @@ Claim (legal size base) = Holds (legalBase size base)
 Claim (illegal size base) = Holds (legalBase size base) → ⊥
 Claim (moves old new by down) =
     (difference old new 4 ≡ by)
-    × ((xs s o : List ℕ) (owner : ℕ) → Releasable xs s new o owner → reading xs .base ≡ old
+    × ((xs s o : List ℕ) (owner : ℕ) → Releasable xs s new o owner → reading2 xs .base ≡ old
     → releasing xs s new o owner ≡ record { number = 0; index = 0; distance = negsuc (down - 1) })
 Claim (makes k old new word moved) =
-    (xs s o : List ℕ) (owner : ℕ) → Bytes xs → Bytes s → Releasable xs s new o owner → reading xs .base ≡ old
+    (xs s o : List ℕ) (owner : ℕ) → Bytes xs → Bytes s → Releasable xs s new o owner → reading2 xs .base ≡ old
     → (j : ℕ) → j < movedWords xs .count → movedWords xs .width j ≡ k → le k xs (movedWords xs .at j) ≡ word
     → le k (releasedImage xs s new o owner) (movedWords xs .at j) ≡ moved
 Claim (sets s l w z at first second) =
-    (xs : List ℕ) (base : ℕ) → Bytes xs → Read xs → Holds (sameIdentity (sheetIdentity s) (reading xs .identity))
-    → z ≤ reading xs .z → Holds (legalBase (length xs) base)
-    → (releasing xs s base l w ≡ acceptedMove (reading xs) base)
-    × (getD (releasedImage xs s base l w) (reading xs .c + at) 0 ≡ first)
-    × (getD (releasedImage xs s base l w) (reading xs .c + at + 1) 0 ≡ second)
+    (xs : List ℕ) (base : ℕ) → Bytes xs → Read2 xs → Holds (sameIdentity (sheetIdentity s) (reading2 xs .identity))
+    → z ≤ reading2 xs .z → Holds (legalBase (length xs) base)
+    → (releasing xs s base l w ≡ acceptedMove (reading2 xs) base)
+    × (getD (releasedImage xs s base l w) (reading2 xs .c + at) 0 ≡ first)
+    × (getD (releasedImage xs s base l w) (reading2 xs .c + at + 1) 0 ≡ second)
 Claim (owns s z at first second) =
-    (xs : List ℕ) (base : ℕ) (l : List ℕ) (w : ℕ) → Bytes xs → Read xs → Holds (sameIdentity (sheetIdentity s) (reading xs .identity))
-    → z ≤ reading xs .z → Holds (legalBase (length xs) base) → Holds (ownersFit l w (reading xs .z))
+    (xs : List ℕ) (base : ℕ) (l : List ℕ) (w : ℕ) → Bytes xs → Read2 xs → Holds (sameIdentity (sheetIdentity s) (reading2 xs .identity))
+    → z ≤ reading2 xs .z → Holds (legalBase (length xs) base) → Holds (ownersFit l w (reading2 xs .z))
     → Holds (owned l w at) → Holds (owned l w (at + 1))
-    → (releasing xs s base l w ≡ acceptedMove (reading xs) base)
-    × (getD (releasedImage xs s base l w) (reading xs .c + at) 0 ≡ first)
-    × (getD (releasedImage xs s base l w) (reading xs .c + at + 1) 0 ≡ second)
+    → (releasing xs s base l w ≡ acceptedMove (reading2 xs) base)
+    × (getD (releasedImage xs s base l w) (reading2 xs .c + at) 0 ≡ first)
+    × (getD (releasedImage xs s base l w) (reading2 xs .c + at + 1) 0 ≡ second)
 Claim (foreign s l w z) =
-    (xs : List ℕ) (base : ℕ) → Read xs → Holds (sameIdentity (sheetIdentity s) (reading xs .identity)) → z ≤ reading xs .z
+    (xs : List ℕ) (base : ℕ) → Read2 xs → Holds (sameIdentity (sheetIdentity s) (reading2 xs .identity)) → z ≤ reading2 xs .z
     → releasing xs s base l w ≡ refusedMove 24 0
 Claim (unsound s) =
-    (xs : List ℕ) (base : ℕ) (l : List ℕ) (w : ℕ) → Read xs → releasing xs s base l w ≡ refusedMove 15 0
+    (xs : List ℕ) (base : ℕ) (l : List ℕ) (w : ℕ) → Read2 xs → releasing xs s base l w ≡ refusedMove 15 0
 
 -- every row of a list
 abbrev pub Each : List Row → Type 0

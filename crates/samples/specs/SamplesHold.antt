@@ -21,7 +21,7 @@ use Rattle.words.specs.Number.{number}
 use Rattle.header.specs.Base.{legalBase}
 use Rattle.table.specs.Entry.{refusedPlace, placeOf}
 use Rattle.answers.specs.declared.Reading.{Reading}
-use Rattle.reading_rules.specs.Reading.{rebased, refusal, reading}
+use Rattle.reading_rules.specs.Reading.{rebased, refusal, reading2}
 use Rattle.moves.specs.Moves.{difference}
 use Rattle.move_answer.specs.MoveAnswer.{refusedMove, acceptedMove}
 use Rattle.sheet_bodies.specs.Small.{sample}
@@ -112,22 +112,22 @@ right (moves old new by down) (by-is, (low, far)) = (
 )
 right (makes k old new word moved) h = λ xs s o owner bx bs goes base j n width is.
     rw width at (released-word xs s new o owner (release-goes xs s new o owner goes) bx bs j n)
-    ∙ ap (λ (v : ℕ). (v + difference (reading xs .base) new k) % 256 ^ k) is
+    ∙ ap (λ (v : ℕ). (v + difference (reading2 xs .base) new k) % 256 ^ k) is
     ∙ ap (λ (o : ℕ). (word + difference o new k) % 256 ^ k) base
     ∙ h
 right (sets s l w z at first second) (contents, (bodies, (fields, (one, (place, (two, (a, (b, (bytes, (good, own)))))))))) =
     λ xs base bx ok names room legal.
-    let sound : Sound s (reading xs .z) =
+    let sound : Sound s (reading2 xs .z) =
     record { contents = contents; bodies = bodies; fields = λ i h. (fields i h .0, omega (arith, fields i h .1)) } in
     let goes : Releasable xs s base l w =
     record {
       fits = record { read = ok; sound = sound; names = names };
-      good = wider l w z (reading xs .z) room good;
+      good = wider l w z (reading2 xs .z) room good;
       own = own;
       legal = legal;
     } in
     let byte = released-entry xs s base l w (release-goes xs s base l w goes) bx (bytes-so s bytes) 0 in
-    let e : reading xs .c + offset s 0 + 0 ≡ reading xs .c + offset s 0 = omega arith in
+    let e : reading2 xs .c + offset s 0 + 0 ≡ reading2 xs .c + offset s 0 = omega arith in
     let f : bodyAt s 0 + 0 ≡ bodyAt s 0 = omega arith in (
       release-accepted xs s base l w goes,
       rw (← place) (rw (e, f) at (byte 0 one (omega arith)) ∙ a),
@@ -135,7 +135,7 @@ right (sets s l w z at first second) (contents, (bodies, (fields, (one, (place, 
     )
 right (owns s z at first second) (contents, (bodies, (fields, (one, (place, (two, (a, (b, bytes)))))))) =
     λ xs base l w bx ok names room legal good own-first own-second.
-    let sound : Sound s (reading xs .z) =
+    let sound : Sound s (reading2 xs .z) =
     record { contents = contents; bodies = bodies; fields = λ i h. (fields i h .0, omega (arith, fields i h .1)) } in
     let goes : Releasable xs s base l w =
     record {
@@ -145,7 +145,7 @@ right (owns s z at first second) (contents, (bodies, (fields, (one, (place, (two
       legal = legal;
     } in
     let byte = released-entry xs s base l w (release-goes xs s base l w goes) bx (bytes-so s bytes) 0 in
-    let e : reading xs .c + offset s 0 + 0 ≡ reading xs .c + offset s 0 = omega arith in
+    let e : reading2 xs .c + offset s 0 + 0 ≡ reading2 xs .c + offset s 0 = omega arith in
     let f : bodyAt s 0 + 0 ≡ bodyAt s 0 = omega arith in (
       release-accepted xs s base l w goes,
       rw (← place) (rw (e, f) at (byte 0 (omega arith) (omega arith)) ∙ a),
@@ -159,7 +159,7 @@ right (owns s z at first second) (contents, (bodies, (fields, (one, (place, (two
     mine l w p q zero h (suc (suc j)) k = absurd (omega arith)
     mine l w p q (suc i) h j k = absurd (omega arith)
 right (foreign s l w z) (fits, (fields, (good, none))) = λ xs base ok names room.
-    release-judged xs s base l w ok ∙ refused (reading xs) (length xs) base names (wider l w z (reading xs .z) room good)
+    release-judged xs s base l w ok ∙ refused (reading2 xs) (length xs) base names (wider l w z (reading2 xs .z) room good)
     (λ i h. (fields i h .0, omega (arith, fields i h .1)))
   where
     refused : (r : Reading) (size base : ℕ) → Holds (sameIdentity (sheetIdentity s) (r .identity)) → Holds (ownersFit l w (r .z))
@@ -173,7 +173,7 @@ right (foreign s l w z) (fits, (fields, (good, none))) = λ xs base ok names roo
           passes (every (count s) (fieldFits s (r .z))) fields,
           fails (fieldsOwned s l w) none,
         )
-right (unsound s) (contents, none) = λ xs base l w ok. release-judged xs s base l w ok ∙ refused (reading xs) (length xs) base l w
+right (unsound s) (contents, none) = λ xs base l w ok. release-judged xs s base l w ok ∙ refused (reading2 xs) (length xs) base l w
   where
     refused : (r : Reading) (size base : ℕ) (l : List ℕ) (w : ℕ) → run refusedMove (releaseRules r size s base l w) ≡ refusedMove 15 0
     refused r size base l w = rw (fails (sheetFits s) (λ h. none (h .1)))

@@ -6,7 +6,7 @@ use mathlib.Core.List.{List}
 use mathlib.Core.Path.{_≡_, sym, _∙_}
 use lib.Dec.{eqb}
 use lib.ListN.{length}
-use Rattle.reading_rules.specs.Reading.{reading}
+use Rattle.reading_rules.specs.Reading.{reading2}
 use Rattle.setting.specs.Setting.{settingNumber}
 use Rattle.answers.specs.declared.Found.{Found}
 
@@ -16,7 +16,7 @@ finding xs offset size =
     let number = settingNumber xs offset size in
     record {
       number = number;
-      place = cond (eqb number 0) (reading xs .c + offset) 0;
+      place = cond (eqb number 0) (reading2 xs .c + offset) 0;
       length = cond (eqb number 0) size 0;
     }
 

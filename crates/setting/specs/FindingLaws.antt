@@ -5,7 +5,7 @@ use mathlib.Core.List.{List}
 use mathlib.Core.Path.{_≡_}
 use borrow.Author.Tests.{eq-eqb, ne-eqb}
 use lib.ListN.{length, take, drop}
-use Rattle.reading_rules.specs.Reading.{reading}
+use Rattle.reading_rules.specs.Reading.{reading2}
 use Rattle.setting.specs.Setting.{settingNumber, settingPart}
 use Rattle.setting.specs.SettingLaws.{setting-passed, setting-accepted}
 use Rattle.setting.specs.Finding.{finding}
@@ -19,7 +19,7 @@ module _ (xs : List ℕ) (offset size : ℕ) where
   found-refused h = rw (ne-eqb (settingNumber xs offset size) 0 h)
 
   pub found-accepted : settingNumber xs offset size ≡ 0
-      → finding xs offset size ≡ record { number = settingNumber xs offset size; place = reading xs .c + offset; length = size }
+      → finding xs offset size ≡ record { number = settingNumber xs offset size; place = reading2 xs .c + offset; length = size }
   unfolding finding
   found-accepted e = rw (eq-eqb (settingNumber xs offset size) 0 e)
 

@@ -9,7 +9,7 @@ use lib.Dec.{eqb}
 use lib.ListN.{length, take, drop}
 use Rattle.facts.specs.Fact.{Fact, _≤?_, _and_, test}
 use Rattle.facts.specs.Rules.{answer, rule}
-use Rattle.reading_rules.specs.Reading.{reading}
+use Rattle.reading_rules.specs.Reading.{reading2}
 use Rattle.answers.specs.After.{afterReading, unlessRefused}
 
 -- 17 FIELD for a lookup: it isn't empty and lies in the settings part
@@ -19,15 +19,15 @@ settingFits offset size z = 1 ≤? size and 32 ≤? offset and offset + size ≤
 -- the number of a lookup: the image's refusal, 17, or 0
 unfoldable pub settingNumber : List ℕ → ℕ → ℕ → ℕ
 settingNumber xs offset size =
-    afterReading (λ number index. number) (reading xs) (rule 17 (settingFits offset size (reading xs .z)) (answer 0))
+    afterReading (λ number index. number) (reading2 xs) (rule 17 (settingFits offset size (reading2 xs .z)) (answer 0))
 
 -- the bytes that it hands back: the setting's, or none where it is refused
 unfoldable pub settingPart : List ℕ → ℕ → ℕ → List ℕ
-settingPart xs offset size = unlessRefused (settingNumber xs offset size) (take size (drop (reading xs .c + offset) xs)) []
+settingPart xs offset size = unlessRefused (settingNumber xs offset size) (take size (drop (reading2 xs .c + offset) xs)) []
 
 -- where in the image they stand; the empty part stands at the region's start, or at the image's where the image is refused
 unfoldable pub settingPlace : List ℕ → ℕ → ℕ → ℕ
-settingPlace xs offset size = reading xs .c + cond (eqb (settingNumber xs offset size) 0) offset 0
+settingPlace xs offset size = reading2 xs .c + cond (eqb (settingNumber xs offset size) 0) offset 0
 
 -- the same two in the region's own part
 abbrev pub regionPart : List ℕ → ℕ → ℕ → List ℕ

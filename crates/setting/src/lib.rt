@@ -39,7 +39,7 @@ fn in_region(region: &[u8], offset: usize, size: usize) -> &[u8]
 pub fn setting(image: &[u8], offset: u64, size: u64) -> &[u8]
     ensures { λ r. ⌜ HandsBack (image .entry) offset size r ⌝ }
 {
-    let r = reading::read(image);
+    let r = reading::read_2(image);
     if r.number != 0 {
         return &image[0..0];
     }
@@ -52,7 +52,7 @@ pub fn setting(image: &[u8], offset: u64, size: u64) -> &[u8]
 pub fn setting_number(image: &[u8], offset: u64, size: u64) -> u32
     ensures { λ r. ⌜ NumberOf (now (image .entry)) offset size r ⌝ }
 {
-    let r = reading::read(image);
+    let r = reading::read_2(image);
     if r.number != 0 {
         return r.number;
     }
@@ -74,7 +74,7 @@ pub fn find(image: &[u8], offset: u64, size: u64) -> Found
             length: 0,
         };
     }
-    let r = reading::read(image);
+    let r = reading::read_2(image);
     Found {
         number,
         place: r.c as u64 + offset,

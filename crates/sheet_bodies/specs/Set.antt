@@ -6,7 +6,7 @@ use mathlib.Core.List.{List, _++_}
 use lib.ListN.{length, getD, take, drop, set}
 use Rattle.facts.specs.Fact.{Holds}
 use Rattle.answers.specs.declared.Reading.{Reading}
-use Rattle.reading_rules.specs.Reading.{reading, Read}
+use Rattle.reading_rules.specs.Reading.{reading2, Read2}
 use Rattle.reading_rules.specs.Settings.{settingsAt, settingsSize}
 use Rattle.moves.specs.Moves.{Words}
 use Rattle.sheet.specs.Sheet.{Sound, sheetIdentity, count, offset, size, bodyAt, sameIdentity}
@@ -34,13 +34,13 @@ setBy xs r s =
 
 -- an image that reads, with the sheet's bytes set
 unfoldable pub setImage : List ℕ → List ℕ → List ℕ
-setImage xs s = setBy xs (reading xs) s
+setImage xs s = setBy xs (reading2 xs) s
 
 -- a sheet that passes 15, 16 and 17 for an image that reads
 pub record Fits (xs s : List ℕ) : Type 0 where
-  pub read : Read xs
-  pub sound : Sound s (reading xs .z)
-  pub names : Holds (sameIdentity (sheetIdentity s) (reading xs .identity))
+  pub read : Read2 xs
+  pub sound : Sound s (reading2 xs .z)
+  pub names : Holds (sameIdentity (sheetIdentity s) (reading2 xs .identity))
 
 -- the sheet's own bytes in the image
 abbrev pub fieldsOf : Reading → List ℕ → Words

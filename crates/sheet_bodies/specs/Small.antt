@@ -7,7 +7,7 @@ use Rattle.words.specs.Le.{le}
 use Rattle.words.specs.Put.{digit}
 use Rattle.words.specs.Number.{number, zeros}
 use Rattle.answers.specs.declared.Reading.{Reading}
-use Rattle.reading_rules.specs.Small.{small, settingBytes, small-reads}
+use Rattle.reading_rules.specs.Small.{small, settingBytes, small-reads-2}
 use Rattle.sheet.specs.Sheet.{bodyAt}
 use Rattle.sheet_bodies.specs.Set.{copied, written, setBy, setImage}
 
@@ -26,4 +26,4 @@ maker = small 0xFFF80000 0xFFF80040 (settingBytes 0 1)
 
 pub small-set : setImage maker sample ≡ small 0xFFF80000 0xFFF80040 (settingBytes 1 0)
 unfolding small number zeros digit le sample setImage setBy written copied bodyAt
-small-set = ap (λ (r : Reading). setBy maker r sample) small-reads
+small-set = ap (λ (r : Reading). setBy maker r sample) small-reads-2

@@ -7,14 +7,13 @@ use mathlib.Core.Path.{_≡_}
 use lib.ListN.{length, take}
 use lib.Seq.{sets}
 use Rattle.facts.specs.Fact.{_≤?_, test}
-use Rattle.reading_rules.specs.Reading.{reading}
 use Rattle.audit_count.specs.Differences.{entries}
-use Rattle.audit.specs.Audit.{differing, auditing}
+use Rattle.audit.specs.Audit.{toldBy, differing, auditing}
 use Rattle.text_answer.specs.Told.{reportText}
 
 -- what is printed of a vendor image and a shipped file
 unfoldable pub auditText : List ℕ → List ℕ → List ℕ
-auditText xs ys = reportText (auditing xs ys 256) (entries (reading xs) (differing xs ys))
+auditText xs ys = reportText (auditing xs ys 256) (entries (toldBy xs) (differing xs ys))
 
 -- "28,672 bytes each at most": a longer file counts as empty, which gives 1 for the first and 19 for the second
 unfoldable pub taken : List ℕ → List ℕ

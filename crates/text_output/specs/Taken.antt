@@ -9,11 +9,10 @@ use lib.ListN.{length, take, drop}
 use lib.Seq.{sets, sets-eq, take-at, take-length}
 use Rattle.facts.specs.Fact.{_≤?_, _≡?_}
 use Rattle.facts.specs.FactLaws.{passes, fails}
-use Rattle.reading_rules.specs.Reading.{reading}
 use Rattle.answers.specs.AfterLaws.{changed-so}
 use Rattle.audit_count.specs.Differences.{entries, settings, strays}
 use Rattle.audit_count.specs.DifferenceLaws.{counts, length-entries}
-use Rattle.audit.specs.Audit.{differing, tally, auditing, listed}
+use Rattle.audit.specs.Audit.{toldBy, differing, tally, auditing, listed}
 use Rattle.audit.specs.AuditLaws.{audit-accepted, fits}
 use Rattle.text_lines.specs.Lines.{Wrote}
 use Rattle.text_lines.specs.LineLaws.{wrote-length}
@@ -32,21 +31,21 @@ module _ (xs ys : List ℕ) where
     -- the counts are those of all differences
     pub counted : auditing xs ys 256 .settings + auditing xs ys 256 .strays ≡ length (differing xs ys)
     unfolding tally
-    counted = rw (audit-accepted xs ys 256 ok .told) (counts (reading xs) (differing xs ys))
+    counted = rw (audit-accepted xs ys 256 ok .told) (counts (toldBy xs) (differing xs ys))
 
     pub no-more : auditing xs ys 256 .settings + auditing xs ys 256 .strays ≤ 256
     no-more = omega (arith, counted, fits xs ys 256 ok)
 
     -- the list's front, as many places as there are differences, is every difference
     pub all-listed : (places : List ℕ) → length places ≡ 256
-        → take (auditing xs ys 256 .settings + auditing xs ys 256 .strays) (listed xs ys places) ≡ entries (reading xs) (differing xs ys)
+        → take (auditing xs ys 256 .settings + auditing xs ys 256 .strays) (listed xs ys places) ≡ entries (toldBy xs) (differing xs ys)
     unfolding listed
     all-listed places e =
-        let es = entries (reading xs) (differing xs ys) in
+        let es = entries (toldBy xs) (differing xs ys) in
         let n : auditing xs ys 256 .settings + auditing xs ys 256 .strays ≡ length es =
-        counted ∙ sym (length-entries (reading xs) (differing xs ys)) in
+        counted ∙ sym (length-entries (toldBy xs) (differing xs ys)) in
         rw (e, changed-so (auditing xs ys 256 .number) (sets places 0 es) places ok, n)
-        (front places es (omega (arith, fits xs ys 256 ok, length-entries (reading xs) (differing xs ys))))
+        (front places es (omega (arith, fits xs ys 256 ok, length-entries (toldBy xs) (differing xs ys))))
 
     pub text-told : (places : List ℕ) → length places ≡ 256
         → auditText xs ys ≡ told (auditing xs ys 256) (take (auditing xs ys 256 .settings + auditing xs ys 256 .strays)

@@ -13,7 +13,7 @@ use Rattle.facts.specs.Fact.{test}
 use Rattle.text_lines.specs.Text.{ascii, digits, decimal, hexDigit, hexDigits}
 use Rattle.facts.specs.Rules.{run}
 use Rattle.reading_rules.specs.Reading.{rules, reading, Read}
-use Rattle.reading_rules.specs.Guarantee.{guaranteed}
+use Rattle.reading_rules.specs.Guarantee.{shared}
 use Rattle.answers.specs.declared.Audited.{Audited}
 use Rattle.audit.specs.Audit.{refusedAudit}
 use Rattle.audit.specs.AuditLaws.{audit-unread, audit-unpaired}
@@ -71,7 +71,7 @@ shipped-none : (vendor shipped : List ℕ) → Read (taken vendor) → taken shi
     → output vendor shipped ≡ ascii "refused 19\n"
 unfolding output digits decimal test
 shipped-none vendor shipped ok e =
-    let g = guaranteed (taken vendor) ok in
+    let g = shared (taken vendor) ok in
     let n =
     ap (λ (a : Audited). a .number)
     (audit-unpaired (taken vendor) (taken shipped) 256 ok (λ l. omega (arith, g .length-least, ap length e))) in

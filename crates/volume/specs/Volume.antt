@@ -3,7 +3,7 @@
 use Prim.Native.Nat.{ℕ, zero, suc, _+_, _-_, _*_, _/_, _%_}
 use mathlib.Core.List.{List, [], _∷_}
 use lib.ListN.{length, getD}
-use Rattle.facts.specs.Fact.{Fact, _≤?_, _≡?_, _and_, every}
+use Rattle.facts.specs.Fact.{Fact, _≤?_, _≡?_, _and_, _or_, every}
 use Rattle.words.specs.Le.{le}
 
 -- 1 LENGTH: from 72 bytes to 2^24
@@ -84,6 +84,13 @@ fileFits xs v f = sameAt xs f guid and fileHeld xs v f 28
 abbrev pub sectionHeld : List ℕ → ℕ → ℕ → ℕ → Fact
 sectionHeld xs end p least = p + 4 ≤? end and least ≤? le 3 xs p and p + le 3 xs p ≤? end
 
--- 4 SECTION, of a file of s bytes: raw, with room for the header
+-- 4 SECTION and request #109: 76 bytes, or fewer where the revision byte of the header in it is 1
+abbrev pub roomFits : List ℕ → ℕ → Fact
+roomFits xs f = 76 ≤? le 3 xs (f + 24) or le 1 xs (f + 39) ≡? 1
+
+-- 4 SECTION, of a file of s bytes: raw, with room for a header
 abbrev pub sectionFits : List ℕ → ℕ → ℕ → Fact
-sectionFits xs f s = le 1 xs (f + 27) ≡? 0x19 and sectionHeld xs (f + s) (f + 24) 76
+sectionFits xs f s =
+    le 1 xs (f + 27) ≡? 0x19
+    and sectionHeld xs (f + s) (f + 24) 64
+    and roomFits xs f

@@ -49,6 +49,11 @@ module _ (a b : List ℕ) where
         (h .1 .0, (rw attribute (h .1 .1 .0), (rw sum (h .1 .1 .1 .0), rw size (h .1 .1 .1 .1)))),
       ))
 
-  -- bytes f+24..f+27
-  pub section-looks : (f s : ℕ) → Alike a b (f + 24) 4 → test (sectionFits a f s) ≡ test (sectionFits b f s)
-  section-looks f s same = rw (le-in same 3 (f + 24) (omega arith) (omega arith), le-in same 1 (f + 27) (omega arith) (omega arith))
+  -- bytes f+24..f+27 and f+39
+  pub section-looks : (f s : ℕ) → Alike a b (f + 24) 4 → Alike a b (f + 39) 1 → test (sectionFits a f s) ≡ test (sectionFits b f s)
+  section-looks f s same revision =
+      rw (
+        le-in same 3 (f + 24) (omega arith) (omega arith),
+        le-in same 1 (f + 27) (omega arith) (omega arith),
+        le-in revision 1 (f + 39) (omega arith) (omega arith),
+      )

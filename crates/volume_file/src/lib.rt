@@ -3,7 +3,7 @@ ghost use mathlib.Core.Path.{_≡_};
 ghost use Prim.Native.Nat.{_+_, _*_, _≤_};
 ghost use lib.ListN.{length};
 ghost use Rattle.facts.specs.Fact.{Tells};
-ghost use Rattle.volume.specs.Volume.{sameAt, guid, sumBytes, fileSum, fileHeld, fileFits, sectionHeld, sectionFits};
+ghost use Rattle.volume.specs.Volume.{sameAt, guid, sumBytes, fileSum, fileHeld, fileFits, sectionHeld, roomFits, sectionFits};
 
 // The header file's GUID, as it is stored.
 const GUID: [u8; 16] = [
@@ -125,6 +125,20 @@ pub fn section_held(image: &[u8], end: usize, p: usize, least: usize) -> bool
     true
 }
 
+// Rule 4 for the room that the header's edition wants, where 64 bytes are there.
+fn has_room(image: &[u8], f: usize) -> bool
+    requires { ⌜ (f + 40 ≤ length (now image)) × (f ≤ 16777216) ⌝ }
+    ensures { λ r. ⌜ Tells r (roomFits (now (image .entry)) f) ⌝ }
+{
+    if 76 <= words::le24(image, f + 24) {
+        return true;
+    }
+    if words::byte(image, f + 39) != 1 {
+        return false;
+    }
+    true
+}
+
 // Rule 4.
 pub fn section_fits(image: &[u8], f: usize, s: usize) -> bool
     requires { ⌜ (28 ≤ s) × (f + s ≤ length (now image)) × (f ≤ 16777216) ⌝ }
@@ -133,7 +147,10 @@ pub fn section_fits(image: &[u8], f: usize, s: usize) -> bool
     if words::byte(image, f + 27) != 0x19 {
         return false;
     }
-    if !section_held(image, f + s, f + 24, 76) {
+    if !section_held(image, f + s, f + 24, 64) {
+        return false;
+    }
+    if !has_room(image, f) {
         return false;
     }
     true

@@ -1,23 +1,49 @@
-use Rattle.audit.specs.AuditLaws.{audit-accepted, fits, small, walked, unlisted}
-use Rattle.audit.specs.Audit.{differing, auditing, listedBytes}
-use Rattle.audit_count.specs.Differences.{differences, entries}
-use Rattle.audit_step.specs.Stride.{by}
-use Rattle.moves.specs.Moves.{difference}
-use Rattle.answers.specs.AfterLaws.{changed-so}
-use Rattle.reading_rules.specs.Guarantee.{guaranteed}
-use Rattle.reading_rules.specs.Reading.{reading}
-use Rattle.answers.specs.declared.Reading.{Reading}
-use Rattle.facts.specs.FactLaws.{granted, refuted}
-use Rattle.words.specs.Put.{putAll}
-use lib.ListN.{length}
-use Prim.Native.Nat.{ℕ, _/_, _^_, _<_}
-use mathlib.Core.List.{List}
 use mathlib.Core.Path.{_≡_, sym, ap, _∙_}
+use mathlib.Core.List.{List}
+use Prim.Native.Nat.{ℕ, _/_}
+use lib.ListN.{length}
+use Rattle.words.specs.Put.{putAll}
+use Rattle.facts.specs.FactLaws.{granted, refuted}
+use Rattle.answers.specs.AfterLaws.{changed-so}
+use Rattle.answers.specs.declared.Audited.{Audited}
+use Rattle.audit_count.specs.Differences.{entries}
+use Rattle.audit.specs.Audit.{toldBy, differing, auditing, listedBytes}
+use Rattle.audit.specs.AuditLaws.{fits, unlisted, accepted-pair}
 use borrow.Author.Needs.{needs}
 use Rattle.audit.proofs.audit_bytes.Statement.{statement}
 use Rattle.audit.proofs.audit_bytes.Tie as tie
+use Rattle.audit.proofs.audit_bytes.Reads as reads
+use Rattle.audit.proofs.audit_bytes.Lts as lts
+use Rattle.audit.proofs.list_bytes.Reads as list-bytes-reads
+use Rattle.audit.proofs.lists.Reads as lists-reads
+use Rattle.audit.proofs.survey.Reads as survey-reads
+use Rattle.reading.proofs.read.Reads as read-reads
 
--- past the test the audit is audit-accepted
+-- src/lib.rt:156:9
+read-requires : tie.Need-read-requires
+read-requires c κs = search needs
+
+-- src/lib.rt:157:9
+survey-requires : tie.Need-survey-requires
+survey-requires c κs = search needs
+
+-- src/lib.rt:158:9
+lists-requires : tie.Need-lists-requires
+lists-requires c κs = search needs
+
+-- src/lib.rt:159:9
+returns : tie.Need-returns
+unfolding listedBytes entries putAll
+returns c =
+    let a = c .before .before .before .before .before .before .before .args in
+    let answer = c .before .before .survey .ensures in
+    let changed = putAll 4 (a .places .now) 0 (entries (toldBy (a .vendor .now)) (differing (a .vendor .now) (a .shipped .now))) in (
+      answer,
+      sym (unlisted (a .vendor .now) (a .shipped .now) (length (a .places .now) / 4) changed (a .places .now) (λ e. rw e)
+          (rw answer at (refuted (c .before .lists .ensures) (c .if1 .taken)))),
+    )
+
+-- past the test the audit is accepted
 told : (c : tie.Else1) →
     let a = c .before .before .before .before .before .before .before .args in
     auditing (a .vendor .now) (a .shipped .now) (length (a .places .now) / 4) .number ≡ 0
@@ -25,85 +51,32 @@ told c =
     let answer = c .before .before .survey .ensures in
     rw answer at (granted (c .before .lists .ensures) (c .if1 .left) .0)
 
--- what is walked is what differs
-all : (c : tie.After-wide-difference) →
-    let a = c .before .before .before .before .before .before .before .before .before .args in
-    differences (by (a .vendor .now) (c .before .before .before .before .before .read .result) (c .before .modular-difference .result)
-    (c .wide-difference .result)) (a .shipped .now) 0 (length (a .shipped .now)) ≡ differing (a .vendor .now) (a .shipped .now)
-all c =
-    let a = c .before .before .before .before .before .before .before .before .before .args in
-    let four = c .before .modular-difference .result in
-    let eight = c .wide-difference .result in
-    let e = c .before .before .before .before .before .read .ensures in
-    let answer = c .before .before .before .before .survey .ensures in
-    let is-four : four ≡ difference (reading (a .vendor .now) .base)
-    (auditing (a .vendor .now) (a .shipped .now) (length (a .places .now) / 4) .base)
-    4 = rw (e, answer) at (c .before .modular-difference .ensures) in
-    let is-eight : eight ≡ difference (reading (a .vendor .now) .base)
-    (auditing (a .vendor .now) (a .shipped .now) (length (a .places .now) / 4) .base) 8 = rw (e, answer) at (c .wide-difference .ensures) in
-    ap (λ (q : Reading). differences (by (a .vendor .now) q four eight) (a .shipped .now) 0 (length (a .shipped .now))) e ∙ walked
-    (a .vendor .now) (a .shipped .now) (length (a .places .now) / 4) (told (c .before .before)) four eight is-four is-eight
-
-read-requires : tie.Need-read-requires
-read-requires c κs = search needs
-
-survey-requires : tie.Need-survey-requires
-survey-requires c κs = search needs
-
-lists-requires : tie.Need-lists-requires
-lists-requires c κs = search needs
-
-returns : tie.Need-returns
-unfolding listedBytes entries putAll
-returns c =
-    let a = c .before .before .before .before .before .before .before .args in
-    let answer = c .before .before .survey .ensures in
-    let changed = putAll 4 (a .places .now) 0 (entries (reading (a .vendor .now)) (differing (a .vendor .now) (a .shipped .now))) in (
-      answer,
-      sym (unlisted (a .vendor .now) (a .shipped .now) (length (a .places .now) / 4) changed (a .places .now) (λ e. rw e)
-          (rw answer at (refuted (c .before .lists .ensures) (c .if1 .taken)))),
+-- src/lib.rt:161:5
+list-bytes-requires : tie.Need-list-bytes-requires
+list-bytes-requires c κs =
+    let a = c .before .before .before .before .before .before .before .before .args in
+    let ok = told (c .before) in (
+      accepted-pair (a .vendor .now) (a .shipped .now) (length (a .places .now) / 4) (c .before .before .before .before .read .result)
+          (c .before .before .before .survey .result .base) (c .before .before .before .before .read .ensures)
+          (ap (λ (q : Audited). q .base) (c .before .before .before .survey .ensures)) ok,
+      fits (a .vendor .now) (a .shipped .now) (length (a .places .now) / 4) ok,
     )
 
--- both bases are words
-bases : (c : tie.Else1) → (c .before .before .before .read .result .base < 2 ^ 32) × (c .before .before .survey .result .base < 2 ^ 32)
-bases c =
-    let a = c .before .before .before .before .before .before .before .args in
-    let b = small (a .vendor .now) (a .shipped .now) (length (a .places .now) / 4) (told c) in
-    (rw (c .before .before .before .read .ensures) (b .0), rw (c .before .before .survey .ensures) (b .1))
-
-modular-difference-requires : tie.Need-modular-difference-requires
-modular-difference-requires c κs = bases c
-
-wide-difference-requires : tie.Need-wide-difference-requires
-wide-difference-requires c κs = bases (c .before)
-
-fill-all-requires : tie.Need-fill-all-requires
-fill-all-requires c κs =
-    let a = c .before .before .before .before .before .before .before .before .before .before .args in
-    let ok = audit-accepted (a .vendor .now) (a .shipped .now) (length (a .places .now) / 4) (told (c .before .before .before)) in (
-      rw (c .before .before .before .before .before .before .read .ensures) (guaranteed (a .vendor .now) (ok .read)),
-      ok .paired,
-      rw (all (c .before)) (fits (a .vendor .now) (a .shipped .now) (length (a .places .now) / 4) (told (c .before .before .before))),
-    )
-
+-- src/lib.rt:153:1
 same-length : tie.Need-same-length
 same-length c = search needs
 
+-- src/lib.rt:153:1
 returns-2 : tie.Need-returns-2
 unfolding listedBytes
 returns-2 c =
-    let a = c .before .before .before .before .before .before .before .before .before .before .before .before .before .args in
-    let answer = c .before .before .before .before .before .before .before .before .survey .ensures in
-    let ks = differing (a .vendor .now) (a .shipped .now) in
-    let changed : List ℕ = putAll 4 (a .places .now) 0 (entries (reading (a .vendor .now)) ks) in (
+    let a = c .before .before .before .before .before .before .before .before .before .before .before .args in
+    let answer = c .before .before .before .before .before .before .survey .ensures in
+    let changed : List ℕ = putAll 4 (a .places .now) 0 (entries (toldBy (a .vendor .now)) (differing (a .vendor .now) (a .shipped .now))) in (
       answer,
-      c .before .before .fill-all .ensures ∙ ap (λ (ls : List ℕ). putAll 4 (a .places .now) 0
-          (entries (c .before .before .before .before .before .before .before .before .before .read .result) ls))
-          (all (c .before .before .before .before))
-          ∙ ap (λ (q : Reading). putAll 4 (a .places .now) 0 (entries q ks))
-          (c .before .before .before .before .before .before .before .before .before .read .ensures)
+      c .before .before .list-bytes .ensures
           ∙ sym (changed-so (auditing (a .vendor .now) (a .shipped .now) (length (a .places .now) / 4) .number) changed (a .places .now)
-          (told (c .before .before .before .before .before .before))),
+          (told (c .before .before .before .before))),
     )
 
 pub audit-bytes-spec : {M : Type 1} → statement M
@@ -114,8 +87,6 @@ audit-bytes-spec =
     survey-requires
     lists-requires
     returns
-    modular-difference-requires
-    wide-difference-requires
-    fill-all-requires
+    list-bytes-requires
     same-length
     returns-2)

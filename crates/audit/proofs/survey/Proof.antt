@@ -1,6 +1,6 @@
 use Rattle.audit.specs.AuditLaws.{audit-unread, audit-unpaired, audit-illegal, audit-told}
 use Rattle.audit.specs.Audit.{shippedBase}
-use Rattle.reading_rules.specs.Guarantee.{guaranteed}
+use Rattle.reading_rules.specs.Guarantee.{shared}
 use Rattle.facts.specs.FactLaws.{granted, refuted}
 use lib.ListN.{length}
 use Prim.Native.Nat.{_+_, _≤_}
@@ -13,11 +13,11 @@ use Rattle.audit.proofs.survey.Tie as tie
 -- the header lies in both files
 header-in : (c : tie.After-struct-known2) →
     let a = c .before .before .before .before .before .before .args in
-    a .r .H + 84 ≤ length (a .shipped .now)
+    a .r .H + 60 ≤ length (a .shipped .now)
 header-in c =
     let start = c .before .before .before .before .before .before in
-    let g = guaranteed (start .args .vendor .now) (rw (start .pre) at (c .before .before .if1 .left)) in
-    rw (start .pre) (omega (arith, g, c .before .if2 .left))
+    let g = shared (start .args .vendor .now) (rw (start .pre) at (c .before .before .if1 .left)) in
+    rw (start .pre) (omega (arith, g .header-within, c .before .if2 .left))
 
 -- the base that is judged is the shipped one
 base : (c : tie.After-le32) →

@@ -2,7 +2,8 @@ use Rattle.contents.specs.ListingLaws.{entries-small, list-unread, list-
 use Rattle.contents.specs.Listing.{listing}
 use Rattle.inside_list.specs.declared.Counts.{Counts}
 use Rattle.inside_list.specs.Inventory.{countsOf}
-use Rattle.reading_rules.specs.Guarantee.{Guaranteed, guaranteed}
+use Rattle.reading_rules.specs.Guarantee.{Guaranteed}
+use Rattle.reading_rules.specs.Edition.{guaranteed}
 use Rattle.words.specs.Le.{Bytes}
 use mathlib.Core.Path.{_≡_, sym, ap, _∙_}
 use native.Mathlib.Omega.{arith}

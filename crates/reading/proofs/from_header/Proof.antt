@@ -35,49 +35,19 @@ returns-2 c =
     let past = c .before .before .before in
     rw (yes (past .before .header-fits .ensures) (past .if1 .left), no (c .before .before .size-fits .ensures) (c .before .if2 .taken)) (c .refused2 .ensures)
 
-add-le32 : tie.Need-add-le32
-add-le32 c = search needs
-
-le32-requires : tie.Need-le32-requires
-le32-requires c κs = search needs
-
-add-round-4 : tie.Need-add-round-4
-add-round-4 c = search needs
-
-round-4-requires : tie.Need-round-4-requires
-round-4-requires c κs =
-    let past = c .before .before .before in
+from-edition-requires : tie.Need-from-edition-requires
+from-edition-requires c κs =
+    let past = c .before .before in
     let fits = granted (past .before .header-fits .ensures) (past .if1 .left) in
-    omega arith
-
-add-from-component : tie.Need-add-from-component
-add-from-component c = search needs
-
-add-from-component-2 : tie.Need-add-from-component-2
-add-from-component-2 c = search needs
-
-from-component-requires : tie.Need-from-component-requires
-from-component-requires c κs =
-    let past = c .before .before .before .before in
     let start = past .before .before .before in
-    let a = start .args in
-    let xs = a .image .now in
-    let fits = granted (past .before .header-fits .ensures) (past .if1 .left) in
-    let back : a .f + 28 - 28 ≡ a .f = omega arith in
-    let walk : Walkable xs (le 8 xs 32) (a .f + 28 - 28) = rw back (start .pre .3) in
-    (omega arith, omega arith, omega arith, omega arith, omega arith, omega arith, walk)
+    (start .pre .0, fits, start .pre .1, start .pre .2, start .pre .3)
 
 returns-3 : tie.Need-returns-3
 unfolding run fromHeader
 returns-3 c =
-    let past2 = c .before .before .before in
+    let past2 = c .before in
     let past = past2 .before .before in
-    rw (
-      yes (past .before .header-fits .ensures) (past .if1 .left),
-      yes (past2 .before .size-fits .ensures) (past2 .if2 .left),
-      ← c .before .before .le32 .ensures .is,
-      ← c .before .round-4 .ensures,
-    ) (c .from-component .ensures)
+    rw (yes (past .before .header-fits .ensures) (past .if1 .left), yes (past2 .before .size-fits .ensures) (past2 .if2 .left)) (c .from-edition .ensures)
 
 pub from-header-spec : {M : Type 1} → statement M
 from-header-spec =
@@ -90,11 +60,5 @@ from-header-spec =
     size-fits-requires
     refused-requires-2
     returns-2
-    add-le32
-    le32-requires
-    add-round-4
-    round-4-requires
-    add-from-component
-    add-from-component-2
-    from-component-requires
+    from-edition-requires
     returns-3)

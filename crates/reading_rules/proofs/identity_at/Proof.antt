@@ -20,7 +20,7 @@ cast-t8 : tie.Need-cast-t8
 cast-t8 c = search needs
 
 extended-number-requires : tie.Need-extended-number-requires
-extended-number-requires c κs = (omega arith, λ h. omega arith)
+extended-number-requires c κs = search needs
 
 returns : tie.Need-returns
 unfolding identityAt

@@ -6,8 +6,8 @@ use Rattle.sheet_bodies.specs.Set.{setBy}
 use Rattle.move_image.specs.Moving.{moveTo}
 use Rattle.move_answer.specs.MoveAnswer.{refusedMove}
 use Rattle.answers.specs.declared.Moved.{Moved}
-use Rattle.reading_rules.specs.Guarantee.{guaranteed}
-use Rattle.reading_rules.specs.Reading.{reading}
+use Rattle.reading_rules.specs.Edition.{guaranteed}
+use Rattle.reading_rules.specs.Reading.{reading2}
 use Rattle.answers.specs.declared.Reading.{Reading}
 use Rattle.facts.specs.Rules.{run}
 use lib.ListN.{length}
@@ -20,15 +20,15 @@ use Rattle.release.proofs.release.Statement.{statement}
 use Rattle.release.proofs.release.Tie as tie
 
 -- past the first check: the image reads
-reads : (c : tie.Else1) → reading (c .before .before .before .before .before .before .before .args .image .now) .number ≡ 0
-reads c = rw (c .before .before .read .ensures) at (c .if1 .left)
+reads : (c : tie.Else1) → reading2 (c .before .before .before .before .before .before .before .args .image .now) .number ≡ 0
+reads c = rw (c .before .before .read-2 .ensures) at (c .if1 .left)
 
 -- sheet and base are judged for the image that was read
 verdict : (c : tie.After-judge) →
     let a = c .before .before .before .before .before .before .before .before .args in
     let xs = a .image .now in
-    c .judge .result ≡ run refusedMove (releaseRules (reading xs) (length xs) (a .sheet .now) (a .base) (a .owners .now) (a .owner))
-verdict c = rw (c .before .before .before .read .ensures) at (c .judge .ensures)
+    c .judge .result ≡ run refusedMove (releaseRules (reading2 xs) (length xs) (a .sheet .now) (a .base) (a .owners .now) (a .owner))
+verdict c = rw (c .before .before .before .read-2 .ensures) at (c .judge .ensures)
 
 -- so that is the answer
 answer : (c : tie.After-judge) →
@@ -44,8 +44,8 @@ passed : (c : tie.Else2) →
     releasing (a .image .now) (a .sheet .now) (a .base) (a .owners .now) (a .owner) .number ≡ 0
 passed c = sym (ap (λ (m : Moved). m .number) (answer (c .before .before))) ∙ c .if2 .left
 
-read-requires : tie.Need-read-requires
-read-requires c κs = search needs
+read-2-requires : tie.Need-read-2-requires
+read-2-requires c κs = search needs
 
 refused-requires : tie.Need-refused-requires
 refused-requires c κs = search needs
@@ -57,7 +57,7 @@ returns : tie.Need-returns
 returns c =
     let read = c .before .before .before in
     let a = read .before .before .before .before .before .args in
-    let e = read .read .ensures in
+    let e = read .read-2 .ensures in
     let unread = rw e at (c .before .if1 .taken) in
     let is = release-unread (a .image .now) (a .sheet .now) (a .base) (a .owners .now) (a .owner) unread in (
       rw (is, ← e) (c .refused .ensures),
@@ -66,7 +66,7 @@ returns c =
 
 judge-requires : tie.Need-judge-requires
 judge-requires c κs =
-    rw (c .before .before .read .ensures) (omega (arith, guaranteed (c .before .before .before .before .before .before .before .args .image .now) (reads c)))
+    rw (c .before .before .read-2 .ensures) (omega (arith, guaranteed (c .before .before .before .before .before .before .before .args .image .now) (reads c)))
 
 same-length-2 : tie.Need-same-length-2
 same-length-2 c = search needs
@@ -81,7 +81,7 @@ set-by-requires : tie.Need-set-by-requires
 set-by-requires c κs =
     let a = c .before .before .before .before .before .before .before .before .before .before .before .args in
     let fits = release-shows (a .image .now) (a .sheet .now) (a .base) (a .owners .now) (a .owner) (passed (c .before)) .fits in
-    rw (c .before .before .before .before .before .before .read .ensures) (guaranteed (a .image .now) (fits .read), fits .sound)
+    rw (c .before .before .before .before .before .before .read-2 .ensures) (guaranteed (a .image .now) (fits .read), fits .sound)
 
 move-to-requires : tie.Need-move-to-requires
 move-to-requires c κs =
@@ -89,7 +89,7 @@ move-to-requires c κs =
     let read = set .before .before .before .before .before .before .before in
     let a = read .before .before .before .before .before .args in
     let shown = release-shows (a .image .now) (a .sheet .now) (a .base) (a .owners .now) (a .owner) (passed (set .before .before)) in
-    rw (set .set-by .ensures, read .read .ensures) (set-guaranteed (a .image .now) (a .sheet .now) (shown .fits), omega (arith, guaranteed (a .image .now) (shown .fits .read), shown .legal))
+    rw (set .set-by .ensures, read .read-2 .ensures) (set-guaranteed (a .image .now) (a .sheet .now) (shown .fits), omega (arith, guaranteed (a .image .now) (shown .fits .read), shown .legal))
 
 same-length-3 : tie.Need-same-length-3
 same-length-3 c = search needs
@@ -106,8 +106,8 @@ returns-3 c =
     let s = a .sheet .now in (
       answer judged,
       move .move-to .ensures
-          ∙ ap (λ (l : List ℕ). moveTo l (read .read .result) (a .base)) (set .set-by .ensures)
-          ∙ ap (λ (q : Reading). moveTo (setBy xs q s) q (a .base)) (read .read .ensures)
+          ∙ ap (λ (l : List ℕ). moveTo l (read .read-2 .result) (a .base)) (set .set-by .ensures)
+          ∙ ap (λ (q : Reading). moveTo (setBy xs q s) q (a .base)) (read .read-2 .ensures)
           ∙ sym (release-changed xs s (a .base) (a .owners .now) (a .owner) (passed (set .before .before))),
     )
 
@@ -115,7 +115,7 @@ pub release-spec : {M : Type 1} → statement M
 release-spec =
     tie.close
     (tie.spec
-    read-requires
+    read-2-requires
     refused-requires
     same-length
     returns

@@ -1,7 +1,8 @@
 use Rattle.setting.specs.SettingLaws.{setting-unread, region-part, unread-place, region-place}
 use Rattle.setting.specs.Setting.{regionPart, regionPlace}
-use Rattle.reading_rules.specs.Guarantee.{Guaranteed, guaranteed}
-use Rattle.reading_rules.specs.Reading.{reading}
+use Rattle.reading_rules.specs.Guarantee.{Guaranteed}
+use Rattle.reading_rules.specs.Edition.{guaranteed}
+use Rattle.reading_rules.specs.Reading.{reading2}
 use Rattle.answers.specs.declared.Reading.{Reading}
 use lib.ListN.{take, drop}
 use Prim.Native.Nat.{ℕ, _+_, _-_}
@@ -14,14 +15,14 @@ use Rattle.setting.proofs.setting.Tie as tie
 
 -- past the check: what the reading guarantees
 read : (c : tie.After-struct-known2) →
-    let at-read = c .before .before .before in Guaranteed (at-read .before .before .args .image .now) (at-read .read .result)
+    let at-read = c .before .before .before in Guaranteed (at-read .before .before .args .image .now) (at-read .read-2 .result)
 read c =
     let at-read = c .before .before .before in
-    let e = at-read .read .ensures in
+    let e = at-read .read-2 .ensures in
     rw e (guaranteed (at-read .before .before .args .image .now) (rw e at (c .before .if1 .left)))
 
-read-requires : tie.Need-read-requires
-read-requires c κs = search needs
+read-2-requires : tie.Need-read-2-requires
+read-2-requires c κs = search needs
 
 sub-result : tie.Need-sub-result
 sub-result c = search needs
@@ -35,7 +36,7 @@ part-result-end c = search needs
 returns : tie.Need-returns
 returns c =
     let a = c .before .before .before .before .before .args in
-    let h = rw (c .before .before .before .read .ensures) at (c .before .if1 .taken) in
+    let h = rw (c .before .before .before .read-2 .ensures) at (c .before .if1 .taken) in
     rw (setting-unread (a .image .now) (a .offset) (a .size) h .1, unread-place (a .image .now) (a .offset) (a .size) h) (refl, (refl, refl))
 
 add-end : tie.Need-add-end
@@ -57,10 +58,10 @@ returns-2 : tie.Need-returns-2
 returns-2 c =
     let a = c .before .before .before .before .before .before .before .args in
     let xs = a .image .now in
-    let r = c .before .before .before .before .before .read .result in
+    let r = c .before .before .before .before .before .read-2 .result in
     let e : r .c + r .z - r .c ≡ r .z = omega arith in
-    let ok : reading xs .number ≡ 0 = rw (c .before .before .before .before .before .read .ensures) at (c .before .before .before .if1 .left) in
-    let is = c .before .before .before .before .before .read .ensures in (
+    let ok : reading2 xs .number ≡ 0 = rw (c .before .before .before .before .before .read-2 .ensures) at (c .before .before .before .if1 .left) in
+    let is = c .before .before .before .before .before .read-2 .ensures in (
       rw e at (c .in-region .ensures .0)
           ∙ ap (λ (q : Reading). regionPart (take (q .z) (drop (q .c) xs)) (a .offset) (a .size)) is
           ∙ region-part xs (a .offset) (a .size) ok,
@@ -68,7 +69,7 @@ returns-2 c =
         c .in-region .ensures .1 .0,
         rw e at (c .in-region .ensures .1 .1)
             ∙ ap (λ (q : Reading). regionPlace (take (q .z) (drop (q .c) xs)) (a .offset) (a .size) + (q .c + a .image .ptr .1)) is
-            ∙ sym (add-assoc (regionPlace (take (reading xs .z) (drop (reading xs .c) xs)) (a .offset) (a .size)) (reading xs .c) (a .image .ptr .1))
+            ∙ sym (add-assoc (regionPlace (take (reading2 xs .z) (drop (reading2 xs .c) xs)) (a .offset) (a .size)) (reading2 xs .c) (a .image .ptr .1))
             ∙ ap (λ (v : ℕ). v + a .image .ptr .1) (region-place xs (a .offset) (a .size) ok),
       ),
     )
@@ -77,7 +78,7 @@ pub setting-spec : {M : Type 1} → statement M
 setting-spec =
     tie.close
     (tie.spec
-    read-requires
+    read-2-requires
     sub-result
     part-result-start
     part-result-end
