@@ -56,6 +56,8 @@ enum status do_setting(char **word, const struct options *options);
 enum status do_audit(char **word, const struct options *options);
 enum status do_verify(char **word, const struct options *options);
 enum status do_handoff(char **word, const struct options *options);
+enum status do_map(char **word, const struct options *options);
+enum status do_place(char **word, const struct options *options);
 enum status do_hex_export(char **word, const struct options *options);
 enum status do_hex_import(char **word, const struct options *options);
 enum status do_station(char **word, const struct options *options);

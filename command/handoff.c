@@ -1,36 +1,14 @@
 /* handoff DUMP: the hand-off blocks that firmware left, a line or a JSON object for each. */
-#include <errno.h>
 #include <inttypes.h>
 #include <stdbool.h>
 #include <stdio.h>
 #include <stdlib.h>
 
 #include "blocks.h"
-#include "files.h"
+#include "dump.h"
 #include "json.h"
 #include "messages.h"
 #include "pajurenda.h"
-#include "refusals.h"
-
-/* The longest list that is looked for; with a dump that is longer, the list must end before. */
-#define MOST_DUMP ((size_t)67108864)
-
-/* More than any block's length: no byte so far after its start says anything of a block. */
-#define BEYOND_BLOCK 65536
-
-/* The whole list's answer. */
-static uint32_t walk(const struct bytes *dump, uint8_t *answer)
-{
-	return pajurenda_handoffs(dump->at, dump->length, answer, PAJURENDA_HANDOFFS_BYTES);
-}
-
-/* The answer is the same whatever follows: the list has ended, or its fault is far from the end. */
-static bool is_settled(const struct bytes *dump)
-{
-	uint8_t answer[PAJURENDA_HANDOFFS_BYTES] = { 0 };
-	return walk(dump, answer) == PAJURENDA_ACCEPTED ||
-	       dump->length - pajurenda_field(answer, PAJURENDA_HANDOFFS_PLACE) >= BEYOND_BLOCK;
-}
 
 /* The blocks that the walk found, by the library's own steps, until one can't be written. */
 static enum status show_blocks(const struct bytes *dump, uint64_t count, bool json)
@@ -67,9 +45,7 @@ static enum status show_document(const struct named *dump, uint32_t number, cons
 static enum status show_list(const struct named *dump, bool json)
 {
 	uint8_t answer[PAJURENDA_HANDOFFS_BYTES] = { 0 };
-	const uint32_t number = walk(&dump->bytes, answer);
-	if (dump->bytes.length >= MOST_DUMP && !is_settled(&dump->bytes))
-		return fail_at(dump->name, EFBIG);
+	const uint32_t number = walk_dump(&dump->bytes, answer);
 	const enum status status =
 		json ? show_document(dump, number, answer)
 		     : show_blocks(&dump->bytes, pajurenda_field(answer, PAJURENDA_HANDOFFS_COUNT), false);
@@ -84,7 +60,7 @@ static enum status show_list(const struct named *dump, bool json)
 enum status do_handoff(char **word, const struct options *options)
 {
 	struct named dump = { .name = word[0] };
-	if (!load_until(dump.name, &dump.bytes, MOST_DUMP, is_settled))
+	if (!load_dump(&dump))
 		return FAILED;
 	const enum status status = show_list(&dump, (options->given & JSON) != 0);
 	free(dump.bytes.at);

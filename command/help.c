@@ -60,6 +60,10 @@ static const struct command commands[] = {
 	  "writes the image that such a text is of", hex_help },
 	{ "handoff", { "DUMP" }, JSON, do_handoff, "[--json] DUMP", NULL,
 	  "shows the hand-off blocks that firmware left", handoff_help },
+	{ "map", { "DUMP" }, JSON, do_map, "[--json] DUMP", NULL,
+	  "shows the free memory by these blocks, and what was taken away", map_help },
+	{ "place", { "DUMP", "IMAGE|SIZE" }, 0, do_place, "DUMP IMAGE|SIZE", NULL,
+	  "shows the lowest base with room for an image there", place_help },
 	{ "station", { "LOG" }, 0, do_station, "LOG", NULL,
 	  "follows a boot log and says which call came out of order", station_help },
 };
@@ -185,14 +189,15 @@ static void show_general(void)
 	fputs(general_help, stdout);
 	show_refusals(PAJURENDA_LENGTH, PAJURENDA_ROOM);
 	show_refusals(PAJURENDA_RESERVED, PAJURENDA_READ_ONLY);
-	show_refusals(PAJURENDA_BLOCK, PAJURENDA_KIND);
+	show_refusals(PAJURENDA_BLOCK, PAJURENDA_NOWHERE);
 	show_refusals(PAJURENDA_ORDER, PAJURENDA_UNKNOWN);
 	show_refusal(PAJURENDA_TEXT);
 	show_refusal(PAJURENDA_SPACE);
 	puts("\nAn image is judged in the order 1 to 12, 22, 13, 14, 25, 26, 27, a release then 28, 15, 23,\n"
-	     "16, 17, 24, 18, an export 1, 18; the first that applies is told. The lists and outputs\n"
-	     "here are as long as they must be, so 20 and 53 are for other callers. Of an edition 1\n"
-	     "image (header revision 1) 1 to 6 and 8 are judged; read and audit take it, byte for byte.");
+	     "16, 17, 24, 18, an export 1, 18, a place 30 to 33, 34, 35, 36, 37; the first that applies\n"
+	     "is told. The lists and outputs here are as long as they must be, so 20 and 53 are for\n"
+	     "other callers. Of an edition 1 image (header revision 1) 1 to 6 and 8 are judged; read\n"
+	     "and audit take it, byte for byte.");
 }
 
 /* The help on one subcommand, or on all where it is NULL. */

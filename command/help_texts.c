@@ -238,6 +238,30 @@ const char handoff_help[] =
 	"\n"
 	"The list must end in the first 67108864 bytes.\n";
 
+const char map_help[] =
+	"Shows the free memory by the hand-off blocks of DUMP (see pajurenda handoff --help): the bytes of\n"
+	"some resource of type 0 (SYSTEM_MEMORY) that are in none of type 5 (MEMORY_RESERVED). Other types\n"
+	"don't count. A line for each free range, by ascending address and none touching another: its first\n"
+	"and its last byte and its size. Then, for each reserved block by its place in DUMP, the ranges of\n"
+	"system memory that it took away; blocks that overlap took the same bytes.\n"
+	"\n"
+	"--json  one JSON document: `free`, the ranges, and `reserved`, the blocks with what each has\n"
+	"        `taken`. Addresses and sizes are text (\"0x0009FC00\").\n"
+	"\n"
+	"The list must end in the first 67108864 bytes.\n";
+
+const char place_help[] =
+	"Shows the lowest base at which an image has its place in the free memory that `map` shows of DUMP:\n"
+	"a multiple of 4096, the image whole in one free range, base plus size at most 2^32. It is shown\n"
+	"alone, in the form that `release` takes:\n"
+	"\n"
+	"    base=$(pajurenda place hobs.bin vendor.bin) &&\n"
+	"    pajurenda release --owners own --owner 1 vendor.bin settings.sheet \"$base\" shipped.bin\n"
+	"\n"
+	"A number is a SIZE in bytes, any other word the file of an IMAGE, which must read and whose length\n"
+	"is taken. A file whose name is a number is given as ./NAME. Where there is no such base, `refused N`\n"
+	"stands in its place, which `release` takes for no base.\n";
+
 const char station_help[] =
 	"Follows the boot log LOG from a reset on: for each call its line, its name and `accepted`, or\n"
 	"`refused`, the number and what was expected in its place. A refused call changes nothing: the\n"

@@ -17,6 +17,8 @@ extern const char audit_status_help[];
 extern const char verify_status_help[];
 extern const char hex_help[];
 extern const char handoff_help[];
+extern const char map_help[];
+extern const char place_help[];
 extern const char station_help[];
 extern const char out_help[];
 extern const char status_help[];

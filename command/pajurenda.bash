@@ -11,7 +11,7 @@ _pajurenda_word()
 	owners:0) echo lists ;;
 	hex:0) echo texts ;;
 	release:2) echo bases ;;
-	read:0 | release:[013] | setting:0 | audit:[01] | verify:* | handoff:0 | station:0) echo files ;;
+	read:0 | release:[013] | setting:0 | audit:[01] | verify:* | handoff:0 | map:0 | place:[01] | station:0) echo files ;;
 	sheet\ empty:[01] | sheet\ start:[01] | sheet\ make:[012] | sheet\ show:[01] | owners\ all:[01] | owners\ show:[01] | must\ show:[01] | hex\ export:[01] | hex\ import:[01]) echo files ;;
 	*) echo nothing ;;
 	esac
@@ -25,7 +25,7 @@ _pajurenda_options()
 	read) echo '--modules --words --json --help' ;;
 	audit) echo '--bytes --ranges --json --report --text --list --reports --names --names-strict --must --help' ;;
 	verify) echo '--owners --owner --json --report --text --list --reports --names --names-strict --must --help' ;;
-	handoff) echo '--json --help' ;;
+	handoff | map) echo '--json --help' ;;
 	sheet\ show) echo '--json --names --names-strict --help' ;;
 	setting | sheet\ start | sheet\ make | owners\ show | must\ show) echo '--names --names-strict --help' ;;
 	release) echo '--owners --owner --hex --help' ;;
@@ -85,8 +85,8 @@ _pajurenda()
 	case $(_pajurenda_kind) in
 	options) offered=$(_pajurenda_options "$command") ;;
 	numbers) offered='1 2' ;;
-	commands) offered='read release sheet must owners setting audit verify hex handoff station help' ;;
-	topics) offered='read release sheet must owners setting audit verify hex handoff station' ;;
+	commands) offered='read release sheet must owners setting audit verify hex handoff map place station help' ;;
+	topics) offered='read release sheet must owners setting audit verify hex handoff map place station' ;;
 	sheets) offered='empty start make show' ;;
 	lists) offered='all show' ;;
 	texts) offered='export import' ;;

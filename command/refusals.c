@@ -38,11 +38,17 @@ void say_bytes(const struct bytes *file, uint64_t at, size_t count)
 		show_hex(stderr, file->at + at, count);
 }
 
-/* The number alone on standard output, unless it is kept from there; the file, number and name on standard error. */
-void begin_refusal(uint32_t number, const char *name)
+/* The number alone on standard output, unless it is kept from there. */
+void print_refused(uint32_t number)
 {
 	if (!kept)
 		printf("refused %" PRIu32 "\n", number);
+}
+
+/* The same, then the file, number and name on standard error. */
+void begin_refusal(uint32_t number, const char *name)
+{
+	print_refused(number);
 	say_name(name);
 	fprintf(stderr, ": refused %" PRIu32 " %s: ", number, pajurenda_name(number));
 }

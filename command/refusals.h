@@ -24,6 +24,7 @@ struct owners;
 void keep_refusals(bool from_output);
 void say_length(const struct bytes *file);
 void say_bytes(const struct bytes *file, uint64_t at, size_t count);
+void print_refused(uint32_t number);
 void begin_refusal(uint32_t number, const char *name);
 void say_rule(uint32_t number);
 enum status end_refusal(void);

@@ -1,7 +1,8 @@
 /*
  * pajurenda: reads, releases (sets and moves) and audits one firmware support image (FSP) in lent
- * memory, reads the list of hand-off blocks that firmware leaves after a boot, follows the order in
- * which a boot calls the firmware, and writes and reads the Intel HEX text of an image.
+ * memory, reads the list of hand-off blocks that firmware leaves after a boot, makes the map of free
+ * memory from it and finds an image's place there, follows the order in which a boot calls the
+ * firmware, and writes and reads the Intel HEX text of an image.
  *
  * A slice passes as a pointer and then its length in bytes. No pointer may be null, even where the
  * length is 0. A buffer that is written (an image to release, a list of places, an answer) must not
@@ -12,9 +13,10 @@
  * Each call writes its answer into the caller's answer buffer: 64-bit little-endian numbers at the
  * offsets named below, from the buffer's first byte. Bytes after the answer are kept. The call
  * returns the answer's number: 0 where accepted, else that of the refusal (images 1 to 20 and 22 to
- * 28, hand-off blocks 30 to 33, Intel HEX 1, 18, 50 and 53). Where the answer buffer is shorter than the answer, the call returns
- * PAJURENDA_SHORT and nothing at all is written anywhere. The calls of the station have no answer but
- * the number they return (40 and 41 are theirs), and a state in the answer buffer's place.
+ * 28, hand-off blocks 30 to 33, their memory 34 to 37, Intel HEX 1, 18, 50 and 53). Where the answer
+ * buffer is shorter than the answer, the call returns PAJURENDA_SHORT and nothing at all is written
+ * anywhere. The calls of the station have no answer but the number they return (40 and 41 are
+ * theirs), and a state in the answer buffer's place.
  *
  * A refused call changes no byte of an image, of a list, of a state or of an output.
  *
@@ -73,11 +75,15 @@ enum {
 	PAJURENDA_FIRST = 31,     /* the first block isn't the handoff block of 56 bytes */
 	PAJURENDA_NOTHING = 32,   /* no byte is left where a block should stand; before 30 */
 	PAJURENDA_KIND = 33,      /* a resource, GUID or end block of a length it can't have */
+	PAJURENDA_ABOVE = 34,     /* a range of memory that ends above 2^64; after 33 */
+	PAJURENDA_MANY = 35,      /* more than 128 ranges of memory */
+	PAJURENDA_IMAGE = 36,     /* an image of no bytes, or of more than 16,777,216 */
+	PAJURENDA_NOWHERE = 37,   /* no place for the image in free memory below 4 GiB */
 	PAJURENDA_ORDER = 40,     /* a call of a boot out of order */
 	PAJURENDA_UNKNOWN = 41,   /* a call or notification that there is none of; before 40 */
 	PAJURENDA_TEXT = 50,      /* a text that isn't what an export writes */
 	PAJURENDA_SPACE = 53,     /* the output is too short for what is to be written */
-	PAJURENDA_SHORT = 100     /* the answer buffer, or a state, is too short; nothing was written */
+	PAJURENDA_SHORT = 100     /* the buffer of an answer, a state or a map is too short */
 };
 
 /* Limits of document 01 in bytes, and how the places of both lists are written. */
@@ -89,6 +95,8 @@ enum {
 	PAJURENDA_ENTRY_BYTES = 8,       /* an entry of a sheet: offset (4), length (2), body (2) */
 	PAJURENDA_RANGE_BYTES = 8,       /* a range of an owner list: offset (4), length (2), owner (2) */
 	PAJURENDA_MOST_RANGES = 64,      /* the ranges of the longest owner list */
+	PAJURENDA_FREE_BYTES = 16,       /* a free range of a map: first byte (8), last byte (8) */
+	PAJURENDA_MAP_ROOM = 2048,       /* what a map is lent: room for 128 free ranges */
 	PAJURENDA_PLACE_BYTES = 4,       /* a place of the audit's list, little-endian */
 	PAJURENDA_STRAY = 16777216       /* what a stray's place has above its position */
 };
@@ -214,6 +222,20 @@ enum {
 	PAJURENDA_HANDOFFS_BYTES = 24
 };
 
+/* The answer of pajurenda_map; where refused, the count is 0. */
+enum {
+	PAJURENDA_MAP_NUMBER = 0,
+	PAJURENDA_MAP_COUNT = 8, /* how many free ranges the map has, 128 at the most */
+	PAJURENDA_MAP_BYTES = 16
+};
+
+/* The answer of pajurenda_lowest_base; where refused, the base is 0. */
+enum {
+	PAJURENDA_LOWEST_NUMBER = 0,
+	PAJURENDA_LOWEST_BASE = 8, /* the lowest base at which the image has its place */
+	PAJURENDA_LOWEST_BYTES = 16
+};
+
 /* The answer of pajurenda_hex_export; where refused, the length is 0. */
 enum {
 	PAJURENDA_EXPORT_NUMBER = 0,
@@ -320,6 +342,28 @@ uint32_t pajurenda_handoff(const uint8_t *buffer, size_t length, uint64_t cursor
  */
 uint32_t pajurenda_handoffs(const uint8_t *buffer, size_t length,
 			    uint8_t *answer, size_t answer_length);
+
+/*
+ * The map of free memory by a list of hand-off blocks: 30 to 33 as pajurenda_handoffs has them, then
+ * 34, then 35. A byte is free where it lies in a resource of type 0 (system memory) and in none of
+ * type 5 (reserved); other types don't count, and resources may overlap. The map's free ranges are as
+ * long as they can be, ascend, and none touches another. Each is PAJURENDA_FREE_BYTES of the map, its
+ * first byte and its last, 64 bits each, so that one may end with the last of 2^64. There are never
+ * more than 128: PAJURENDA_MAP_ROOM bytes are always enough, and fewer are answered with
+ * PAJURENDA_SHORT before anything is read, whatever the list is. What the map holds after its ranges
+ * is kept.
+ */
+uint32_t pajurenda_map(const uint8_t *buffer, size_t length,
+		       uint8_t *map, size_t map_length,
+		       uint8_t *answer, size_t answer_length);
+
+/*
+ * The lowest base at which an image of so many bytes lies whole in one free range of that map: a
+ * multiple of 4,096, base plus size at most 2^32, as pajurenda_release takes it. 30 to 35, then 36,
+ * then 37. A free range may go on above 4 GiB, the image may not.
+ */
+uint32_t pajurenda_lowest_base(const uint8_t *buffer, size_t length, uint64_t size,
+			       uint8_t *answer, size_t answer_length);
 
 /*
  * One call of a boot, in the order that the state stands for; 41, then 40, else 0 and the state after
@@ -536,6 +580,17 @@ static inline int pajurenda_is_end(const uint8_t *answer)
 	return pajurenda_field(answer, PAJURENDA_HANDOFF_KIND) == PAJURENDA_BLOCK_END;
 }
 
+/* The first and the last byte of the i-th free range of a map, counted from 0. */
+static inline uint64_t pajurenda_free_first(const uint8_t *map, size_t i)
+{
+	return pajurenda_number(map + PAJURENDA_FREE_BYTES * i, 8);
+}
+
+static inline uint64_t pajurenda_free_last(const uint8_t *map, size_t i)
+{
+	return pajurenda_number(map + PAJURENDA_FREE_BYTES * i + 8, 8);
+}
+
 /* The name of a block's kind; "nothing" where refused. */
 static inline const char *pajurenda_kind_name(uint64_t kind)
 {
@@ -609,6 +664,10 @@ static inline const char *pajurenda_name(uint32_t number)
 	case PAJURENDA_FIRST: return "FIRST";
 	case PAJURENDA_NOTHING: return "NOTHING";
 	case PAJURENDA_KIND: return "KIND";
+	case PAJURENDA_ABOVE: return "ABOVE";
+	case PAJURENDA_MANY: return "MANY";
+	case PAJURENDA_IMAGE: return "IMAGE";
+	case PAJURENDA_NOWHERE: return "NOWHERE";
 	case PAJURENDA_ORDER: return "ORDER";
 	case PAJURENDA_UNKNOWN: return "UNKNOWN";
 	case PAJURENDA_TEXT: return "TEXT";
@@ -684,6 +743,19 @@ static inline const char *pajurenda_handoff_sentence(uint32_t number)
 	}
 }
 
+/* The rules 34 to 37, for pajurenda_sentence. */
+static inline const char *pajurenda_memory_sentence(uint32_t number)
+{
+	switch (number) {
+	case PAJURENDA_ABOVE: return "a resource of type 0 or 5 must end at 2^64 or below";
+	case PAJURENDA_MANY: return "a list must have at most 128 resources of types 0 and 5";
+	case PAJURENDA_IMAGE: return "an image to be placed must have 1 to 16777216 bytes";
+	default:
+		return "the image must lie whole in one free range, at a base that is a multiple of 4096, "
+		       "base plus size at most 2^32";
+	}
+}
+
 /* The rule behind an answer's number in a sentence; "unknown" where it is no answer. */
 static inline const char *pajurenda_sentence(uint32_t number)
 {
@@ -694,6 +766,8 @@ static inline const char *pajurenda_sentence(uint32_t number)
 		return pajurenda_module_sentence(number);
 	if (number >= PAJURENDA_BLOCK && number <= PAJURENDA_KIND)
 		return pajurenda_handoff_sentence(number);
+	if (number >= PAJURENDA_ABOVE && number <= PAJURENDA_NOWHERE)
+		return pajurenda_memory_sentence(number);
 	switch (number) {
 	case PAJURENDA_ACCEPTED: return "every rule is kept";
 	case PAJURENDA_SHEET:
@@ -728,7 +802,7 @@ static inline const char *pajurenda_sentence(uint32_t number)
 		       "bytes at a legal base";
 	case PAJURENDA_SPACE: return "the output must have room for all that is written";
 	case PAJURENDA_SHORT:
-		return "the buffer of an answer, or of a station's state, must have room for it";
+		return "the buffer of an answer, of a station's state or of a map must have room for it";
 	default: return "unknown";
 	}
 }

@@ -18,13 +18,13 @@ offers() {
 	count=$((count + 1))
 }
 
-offers 'audit|handoff|help|hex|must|owners|read|release|setting|sheet|station|verify' ''
+offers 'audit|handoff|help|hex|map|must|owners|place|read|release|setting|sheet|station|verify' ''
 offers 'audit' a
 offers 'read|release' r
 offers 'setting|sheet|station' s
 offers '--help|--version' -
 offers '--version' --v
-offers 'audit|handoff|hex|must|owners|read|release|setting|sheet|station|verify' help ''
+offers 'audit|handoff|hex|map|must|owners|place|read|release|setting|sheet|station|verify' help ''
 offers '' help sheet ''
 offers '' help owners ''
 offers 'handoff|help|hex' h
@@ -50,6 +50,14 @@ offers 'a b|image' verify image image image image ''
 offers 'a b|image' verify --text --report ''
 offers 'verify' v
 offers '--help|--json' handoff -
+offers '--help|--json' map -
+offers 'a b|image' map ''
+offers '' map image ''
+offers '--help' place -
+offers 'a b|image' place ''
+offers 'a b|image' place image ''
+offers '' place image image ''
+offers 'map|must' m
 offers '--help|--hex|--owner|--owners' release -
 offers 'a b|image' release --hex ''
 offers 'keep' release --hex image image image ''
@@ -75,7 +83,6 @@ offers 'a b|image' must show ''
 offers 'a b|image' must show --names image image ''
 offers '' must show image image ''
 offers '' must nonsense ''
-offers 'must' m
 offers 'a b|image' sheet start image ''
 offers '' sheet start image image ''
 offers 'a b|image' read ''

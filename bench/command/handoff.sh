@@ -165,17 +165,20 @@ else:
     print("refused %d" % document["number"])
 END
 
-# json_is FILE STATUS: --json says what the lines say, with the same words on standard error
-json_is() {
-	try "$2" handoff "$1"
+# document_is COMMAND SCRIPT FILE STATUS: --json says what the lines say, by the script, with the same words on standard error
+document_is() {
+	try "$4" "$1" "$3"
 	cp "$work/out" "$work/wanted_lines"
 	cp "$work/err" "$work/wanted_words"
-	try "$2" handoff --json "$1"
+	try "$4" "$1" --json "$3"
 	same "$work/err" "$work/wanted_words"
 	[ -n "$python" ] || return 0
-	"$python" -I -S "$work/lines.py" <"$work/out" >"$work/again" 2>"$work/err" || fail "no such document"
+	"$python" -I -S "$2" <"$work/out" >"$work/again" 2>"$work/err" || fail "no such document"
 	same "$work/again" "$work/wanted_lines"
 }
+
+# json_is FILE STATUS: so it is of handoff
+json_is() { document_is handoff "$work/lines.py" "$@"; }
 
 # the document of a small list to the last letter
 try_json_text() {

@@ -73,6 +73,28 @@ static void try_station(void)
 	check(PAJURENDA_STATION_BYTES == 8, "the length of a state");
 }
 
+/* The maps' numbers, answers and ranges. */
+static void try_map(void)
+{
+	static const char *const names[] = { "ABOVE", "MANY", "IMAGE", "NOWHERE" };
+	uint8_t map[2 * PAJURENDA_FREE_BYTES] = { 0 };
+	for (uint32_t i = 34; i <= 37; i++) {
+		check(strcmp(pajurenda_name(i), names[i - 34]) == 0 && !pajurenda_has_index(i), "the names of 34 to 37");
+		check(strlen(pajurenda_sentence(i)) > 10, "the sentences of 34 to 37");
+		for (uint32_t j = 0; j < i; j++)
+			check(strcmp(pajurenda_sentence(i), pajurenda_sentence(j)) != 0, "two sentences alike");
+	}
+	check(PAJURENDA_MAP_COUNT + 8 == PAJURENDA_MAP_BYTES, "the length of a map's answer");
+	check(PAJURENDA_LOWEST_BASE + 8 == PAJURENDA_LOWEST_BYTES, "the length of a place's answer");
+	check(PAJURENDA_MAP_ROOM == 128 * PAJURENDA_FREE_BYTES, "the room of a map");
+	map[16] = 1;
+	map[23] = 0x80;
+	map[24] = 2;
+	map[31] = 0xFF;
+	check(pajurenda_free_first(map, 0) == 0 && pajurenda_free_last(map, 0) == 0, "the first range of a map");
+	check(pajurenda_free_first(map, 1) == 0x8000000000000001 && pajurenda_free_last(map, 1) == 0xFF00000000000002, "the second");
+}
+
 /* 50 and 53, and the answers of the Intel HEX calls. */
 static void try_hex(void)
 {
@@ -102,7 +124,7 @@ static void try_numbers(void)
 	}
 	check(strcmp(pajurenda_name(PAJURENDA_SHORT), "SHORT") == 0, "the name of 100");
 	check(strcmp(pajurenda_sentence(PAJURENDA_SHORT), "unknown") != 0, "the sentence of 100");
-	static const uint32_t others[] = { 21, 29, 34, 39, 42, 49, 51, 52, 54, 99, 101, 65536, 65537, 4294967295u };
+	static const uint32_t others[] = { 21, 29, 38, 39, 42, 49, 51, 52, 54, 99, 101, 65536, 65537, 4294967295u };
 	for (size_t i = 0; i < sizeof others / sizeof others[0]; i++) {
 		check(strcmp(pajurenda_name(others[i]), "unknown") == 0, "a name of no answer");
 		check(strcmp(pajurenda_sentence(others[i]), "unknown") == 0, "a sentence of no answer");
@@ -264,6 +286,7 @@ int main(void)
 	try_numbers();
 	try_handoff();
 	try_station();
+	try_map();
 	try_hex();
 	try_fields();
 	try_image_version();

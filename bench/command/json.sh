@@ -262,7 +262,7 @@ try_json_names() {
 	# shellcheck disable=SC1003
 	for name in '"' '\' '",' 'a"b\c' '<script>' "$(printf 'n\tt\001\177')" "$(printf '\303\266\342\202\254\360\237\230\200')" "$(printf '\377\300\200\355\240\200\364\220\200\200x')"; do
 		cp v "./$name"
-		for words in 'read' 'sheet show one.sheet' 'audit v' 'verify v one.sheet' 'handoff'; do
+		for words in 'read' 'sheet show one.sheet' 'audit v' 'verify v one.sheet' 'handoff' 'map'; do
 			got=0
 			# shellcheck disable=SC2086
 			run $words "./$name" --json >"$work/out" 2>"$work/err" || got=$?
@@ -294,6 +294,7 @@ try_json_names_told() {
 		run audit --json r s || :
 		run verify --json v one.sheet t || :
 		run handoff --json kinds
+		run map --json kinds
 	} 2>/dev/null | grep -o '"[a-z_]*":' | tr -d '":' | sort -u >"$work/members"
 	[ "$(wc -l <"$work/members")" -ge 50 ] || fail "too few members: $(wc -l <"$work/members")"
 	while read -r word; do

@@ -14,9 +14,9 @@ help_is() {
 try_help() {
 	works 0 --help
 	cp "$work/out" "$work/help.all"
-	for word in read release 'sheet empty' 'sheet start' 'sheet make' 'sheet show' 'must show' 'owners all' 'owners show' setting audit verify 'hex export' 'hex import' handoff station help --modules --words --bytes \
+	for word in read release 'sheet empty' 'sheet start' 'sheet make' 'sheet show' 'must show' 'owners all' 'owners show' setting audit verify 'hex export' 'hex import' handoff map place station help --modules --words --bytes \
 		--ranges --json --report --text --list --reports --owners --owner --names --must --base --hex --version 'Exit status' ' 20  ROOM' ' 22  RESERVED' ' 23  OWNERS' ' 24  OWNER' \
-		' 25  MODULE' ' 26  WORD' ' 27  RELOCATION' ' 28  READ-ONLY' '1 to 12, 22, 13, 14, 25, 26, 27' '28, 15, 23,' ' 33  KIND' ' 40  ORDER' ' 41  UNKNOWN' ' 50  TEXT' ' 53  SPACE'; do
+		' 25  MODULE' ' 26  WORD' ' 27  RELOCATION' ' 28  READ-ONLY' '1 to 12, 22, 13, 14, 25, 26, 27' '28, 15, 23,' ' 33  KIND' ' 34  ABOVE' ' 35  MANY' ' 36  IMAGE' ' 37  NOWHERE' ' 40  ORDER' ' 41  UNKNOWN' ' 50  TEXT' ' 53  SPACE'; do
 		grep -qF -e "$word" "$work/out" || fail "the help does not speak of $word"
 		passed
 	done
@@ -24,7 +24,7 @@ try_help() {
 		# shellcheck disable=SC2086
 		help_is all $words
 	done
-	for name in read release sheet must owners setting audit verify hex handoff station; do
+	for name in read release sheet must owners setting audit verify hex handoff map place station; do
 		works 0 help "$name"
 		cp "$work/out" "$work/help.$name"
 		[ "$(head -n 1 "$work/out" | cut -d ' ' -f 1-3)" = "usage: pajurenda $name" ] || fail "no usage first"
@@ -41,7 +41,7 @@ try_help() {
 		grep -qF -e 'extended number' "$work/help.$name" || fail "$name's help has no extended number"
 	done
 	grep -qF -e --ranges "$work/help.audit" || fail "audit's help has no --ranges"
-	for name in read sheet audit verify hex handoff; do
+	for name in read sheet audit verify hex handoff map; do
 		grep -qF -e --json "$work/help.$name" || fail "$name's help has no --json"
 	done
 	for word in --report --text --list --reports --must; do

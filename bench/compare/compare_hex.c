@@ -9,14 +9,13 @@
 #include <stdlib.h>
 #include <string.h>
 
+#include "held.h"
 #include "hex_texts.h"
 #include "images.h"
-#include "lent.h"
 #include "../second/hex.h"
 
 #define MOST ((size_t)PAJURENDA_MOST_IMAGE)
 #define MOST_TEXT ((size_t)PAJURENDA_MOST_HEX)
-#define ANSWER_ROOM ((size_t)4096)
 
 /* A run of so many draws must have had every number. */
 #define LONG 500
@@ -28,45 +27,14 @@ static uint64_t seen[CALLS][101];
 static uint64_t changes, cuts;
 
 static uint8_t *bytes, *text, *wanted;
-static uint8_t filled[ANSWER_ROOM], answered[ANSWER_ROOM];
-static struct lent lent_in, lent_out, lent_answer;
+static struct lent lent_in, lent_out;
 
 /* ---- one call on both sides ---- */
 
-static void differ(const char *what)
-{
-	printf("different: %s\n%s", what, whereabouts);
-	exit(1);
-}
-
-/* The answer buffer: exactly as long as it must be, longer, or where short is drawn too short. */
-static size_t lend_answer(size_t fields, bool may_be_short)
-{
-	const uint64_t kind = below(8);
-	size_t length = 8 * fields;
-	if (kind == 0 && may_be_short)
-		length = (size_t)below(length);
-	else if (kind < 3)
-		length += (size_t)below(40);
-	fill_bytes(filled, length);
-	memcpy(answered, filled, length);
-	lend(&lent_answer, filled, length);
-	return length;
-}
-
 /* What both sides must leave: the number, the answer's fields and the output's bytes. */
-static void settle(enum call call, uint32_t number, uint32_t second, const uint64_t *fields, size_t count)
+static void settle(enum call call, uint32_t number, uint64_t second, const uint64_t *fields, size_t count)
 {
-	if (lent_answer.length < 8 * count)
-		second = PAJURENDA_SHORT;
-	else
-		put_fields(answered, fields, count);
-	if (number != second) {
-		printf("library %" PRIu32 ", second reader %" PRIu32 "\n", number, second);
-		differ("the number");
-	}
-	if (!same_lent(&lent_answer, "answer", answered))
-		differ("the answer");
+	settle_answer(number, second, fields, count);
 	if (!same_lent(&lent_out, "output", wanted))
 		differ("the output");
 	seen[call][number]++;
@@ -85,7 +53,7 @@ static uint32_t same_export(size_t length, uint64_t base, size_t room, bool may_
 	if (!short_answer)
 		r = second_export(bytes, length, base, wanted, room);
 	const uint64_t fields[] = { r.number, r.length };
-	settle(EXPORT, number, (uint32_t)r.number, fields, 2);
+	settle(EXPORT, number, r.number, fields, 2);
 	if (!same_lent(&lent_in, "bytes", bytes))
 		differ("the input");
 	return number;
@@ -104,7 +72,7 @@ static uint32_t same_import(const uint8_t *from, size_t length, size_t room, boo
 	if (!short_answer)
 		r = second_import(from, length, wanted, room);
 	const uint64_t fields[] = { r.number, r.base, r.length };
-	settle(IMPORT, number, (uint32_t)r.number, fields, 3);
+	settle(IMPORT, number, r.number, fields, 3);
 	if (!same_lent(&lent_in, "text", from))
 		differ("the input");
 	return number;
@@ -239,7 +207,7 @@ int main(int count, char **words)
 	wanted = memory(malloc(MOST_TEXT));
 	open_lent(&lent_in, (MOST_TEXT / 65536 + 1) * 65536);
 	open_lent(&lent_out, (MOST_TEXT / 65536 + 1) * 65536);
-	open_lent(&lent_answer, ANSWER_ROOM);
+	open_answer();
 	watch_faults();
 	fill_bytes(bytes, MOST + 1);
 	try_boundaries();

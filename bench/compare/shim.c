@@ -5,6 +5,7 @@
 
 #include "../second/handoff.h"
 #include "../second/hex.h"
+#include "../second/map.h"
 #include "../second/second.h"
 #include "../second/station.h"
 
@@ -117,6 +118,37 @@ uint32_t pajurenda_handoffs(const uint8_t *buffer, size_t length,
 		return PAJURENDA_SHORT;
 	const struct second_list r = second_handoffs(buffer, length);
 	const uint64_t fields[] = { r.number, r.place, r.count };
+	put_fields(answer, fields, FIELDS(fields));
+	return (uint32_t)r.number;
+}
+
+/* The free ranges, written where there is room for as many as can be. */
+uint32_t pajurenda_map(const uint8_t *buffer, size_t length,
+		       uint8_t *map, size_t map_length,
+		       uint8_t *answer, size_t answer_length)
+{
+	struct second_map r = { .number = PAJURENDA_SHORT };
+	if (answer_length < PAJURENDA_MAP_BYTES)
+		return PAJURENDA_SHORT;
+	if (map_length >= PAJURENDA_MAP_ROOM)
+		r = second_map(buffer, length);
+	for (size_t i = 0; i < r.count; i++) {
+		put_number(map, PAJURENDA_FREE_BYTES * i, 8, r.range[i].first);
+		put_number(map, PAJURENDA_FREE_BYTES * i + 8, 8, r.range[i].last);
+	}
+	const uint64_t fields[] = { r.number, r.count };
+	put_fields(answer, fields, FIELDS(fields));
+	return (uint32_t)r.number;
+}
+
+/* An image's place in them. */
+uint32_t pajurenda_lowest_base(const uint8_t *buffer, size_t length, uint64_t size,
+			       uint8_t *answer, size_t answer_length)
+{
+	if (answer_length < PAJURENDA_LOWEST_BYTES)
+		return PAJURENDA_SHORT;
+	const struct second_place r = second_place(buffer, length, size);
+	const uint64_t fields[] = { r.number, r.base };
 	put_fields(answer, fields, FIELDS(fields));
 	return (uint32_t)r.number;
 }

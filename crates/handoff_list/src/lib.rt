@@ -102,7 +102,7 @@ fn pass_head(buffer: &[u8], at: usize) -> Pass
 }
 
 // A step at `at`, in brief.
-fn pass_one(buffer: &[u8], at: usize) -> Pass
+pub fn pass_one(buffer: &[u8], at: usize) -> Pass
     ensures { λ r. ⌜ r ≡ brief (stepped (now (buffer .entry)) at) ⌝ }
 {
     if buffer.len() <= at {

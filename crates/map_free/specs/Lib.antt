@@ -1,0 +1,5 @@
+pub mod Free
+pub mod Runs
+pub mod FreeLaws
+pub mod Look
+pub mod Sorted

@@ -1,0 +1,4 @@
+pub mod Claims
+pub mod Maps
+pub mod Places
+pub mod Example
