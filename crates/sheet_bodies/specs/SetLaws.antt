@@ -14,8 +14,12 @@ use Rattle.answers.specs.declared.Reading.{Reading}
 use Rattle.reading_rules.specs.Guarantee.{Guaranteed}
 use Rattle.reading_rules.specs.Settings.{settingsAt, settingsSize, OutsideSettings}
 use Rattle.moves.specs.Moves.{Words, Beside}
+use Rattle.moves.specs.MovesLaws.{find}
 use Rattle.sheet_bodies.specs.PartLaws.{length-joined, joined-low, joined-mid, joined-high}
 use Rattle.sheet.specs.Sheet.{Sound, count, offset, size, bodyAt, fieldFits}
+use Rattle.sheet.specs.SheetLaws.{bodies-within, ascending}
+use Rattle.sheet.specs.ByteAt.{covers, byteAt, laid}
+use Rattle.sheet.specs.ByteAtLaws.{byte-one, byte-none}
 use Rattle.sheet_bodies.specs.Set.{fieldsOf, joined, copied, written, setBy}
 
 -- ---- a copy
@@ -54,29 +58,14 @@ copied-in xs at s from (suc k) j fits h =
 
 -- ---- the bodies of a sheet
 
-body-mono : (s : List ℕ) (i k : ℕ) → bodyAt s i ≤ bodyAt s (i + k)
-unfolding bodyAt
-body-mono s i zero = let e : i + 0 ≡ i = omega arith in rw e (omega arith)
-body-mono s i (suc k) = let e : i + suc k ≡ suc (i + k) = omega arith in rw e (omega (arith, body-mono s i k))
-
 module _ (s : List ℕ) (z : ℕ) (sound : Sound s z) where
   -- a body lies in the sheet
   pub body-within : (i : ℕ) → i < count s → bodyAt s i + size s i ≤ length s
-  unfolding bodyAt
-  body-within i h =
-      let e : suc i + (count s - suc i) ≡ count s = omega arith in
-      let up : bodyAt s (suc i) ≤ bodyAt s (count s) = rw e at (body-mono s (suc i) (count s - suc i)) in
-      omega (arith, up, sound .bodies .1)
+  body-within = bodies-within s (sound .bodies)
 
   -- an entry starts at or past the end of each before it
   pub entries-ascend : (j i : ℕ) → i < j → j < count s → offset s i + size s i ≤ offset s j
-  entries-ascend zero i l h = absurd (omega arith)
-  entries-ascend (suc j) i l h =
-      let next : offset s j + size s j ≤ offset s (suc j) = sound .bodies .0 (suc j) h .1 .1 in
-      elim (decLt i j) [
-        | yes g ↦ omega (arith, entries-ascend j i g (omega arith), next)
-        | no g ↦ let e : i ≡ j = omega arith in rw e next
-      ]
+  entries-ascend = ascending s (sound .bodies)
 
 -- ---- the settings part, written
 
@@ -168,3 +157,23 @@ module _ (xs : List ℕ) (r : Reading) (s : List ℕ) (g : Guaranteed xs r) (sou
       rw e at (joined-mid xs (settingsAt r) (settingsSize r) (written (settingsPart xs r) s (count s)) room new-long (offset s i - 32 + j)
       (omega arith)
       ∙ written-in (settingsPart xs r) s (r .z) sound part-long (count s) i j (omega arith) hi hj)
+
+  -- each byte of the region is what the sheet sets there, or what it was
+  pub set-laid : (k : ℕ) → getD (setBy xs r s) (r .c + k) 0 ≡ laid (byteAt s k) (getD xs (r .c + k) 0)
+  set-laid k = go (find (fieldsOf r s) (count s) (r .c + k))
+    where
+      go : ((i : ℕ) × (i < count s) × (r .c + offset s i ≤ r .c + k) × (r .c + k < r .c + offset s i + size s i))
+          ⊎ Beside (fieldsOf r s) (count s) (r .c + k)
+          → getD (setBy xs r s) (r .c + k) 0 ≡ laid (byteAt s k) (getD xs (r .c + k) 0)
+      go (inl (i, h, low, high)) =
+          let j : ℕ = k - offset s i in
+          let e : r .c + offset s i + j ≡ r .c + k = omega arith in
+          let reach : Holds (covers s i k) = (omega arith, omega arith) in
+          rw (byte-one s (sound .bodies) i k reach h) (rw e at (set-in i j h (omega arith)))
+      go (inr out) =
+          rw (byte-none s k (λ i h c. not i (out i h) (c .0) (c .1))) (set-beside (r .c + k) out)
+        where
+          not : (i : ℕ) → (r .c + k < r .c + offset s i) ⊎ (r .c + offset s i + size s i ≤ r .c + k) → offset s i ≤ k
+              → k < offset s i + size s i → ⊥
+          not i (inl a) l g = omega arith
+          not i (inr a) l g = omega arith
