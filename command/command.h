@@ -12,7 +12,7 @@ enum status { FINE = 0, UNEXPLAINED = 1, FAILED = 2 };
 enum option {
 	HELP = 1, VERSION = 2, BYTES = 4, RANGES = 8, WORDS = 16, JSON = 32, OWNERS = 64, OWNER = 128,
 	REPORT = 256, TEXT = 512, LIST = 1024, REPORTS = 2048, MODULES = 4096, NAMES = 8192,
-	STRICT = 16384, MUST = 32768, AT_BASE = 65536, AS_HEX = 131072
+	STRICT = 16384, MUST = 32768, AT_BASE = 65536, AS_HEX = 131072, WITH_IMAGE = 1048576
 };
 
 /* The options of a command line, and the values of those that have one; NULL where it isn't given. */
@@ -22,6 +22,7 @@ struct options {
 	const char *report, *text, *list, *reports;
 	const char *names, *must;
 	const char *base, *hex;
+	const char *image;
 };
 
 /* A file's bytes in memory; never at NULL once loaded, even where empty. */
@@ -49,6 +50,7 @@ enum status do_sheet_empty(char **word, const struct options *options);
 enum status do_sheet_start(char **word, const struct options *options);
 enum status do_sheet_make(char **word, const struct options *options);
 enum status do_sheet_show(char **word, const struct options *options);
+enum status do_sheet_fold(char **word, const struct options *options);
 enum status do_must_show(char **word, const struct options *options);
 enum status do_owners_all(char **word, const struct options *options);
 enum status do_owners_show(char **word, const struct options *options);

@@ -31,6 +31,9 @@ static const struct command commands[] = {
 	  "[--names FILE] IMAGE TEXT OUT", NULL, "writes the sheet that a text describes", sheet_help },
 	{ "sheet show", { "SHEET", "[IMAGE]" }, JSON | NAMES | STRICT, do_sheet_show,
 	  "[--json] [--names FILE] SHEET [IMAGE]", NULL, "shows a sheet as such a text", sheet_help },
+	{ "sheet fold", { "SHEET..", "OUT" }, NAMES | STRICT | WITH_IMAGE, do_sheet_fold,
+	  "[--names FILE --image IMAGE] SHEET.. OUT", NULL,
+	  "writes one sheet that sets what old ones set together", sheet_help },
 	{ "must show", { "FILE", "IMAGE" }, NAMES | STRICT, do_must_show, "[--names FILE] FILE IMAGE", NULL,
 	  "explains what a shipped file must have, for --must", must_help },
 	{ "owners all", { "IMAGE", "OUT" }, 0, do_owners_all, "IMAGE OUT", NULL,
@@ -72,7 +75,8 @@ static const struct command commands[] = {
 
 /* The first words of the commands that have two. */
 static const struct group groups[] = {
-	{ "sheet", "empty, start, make or show is missing", "\" is none of empty, start, make and show" },
+	{ "sheet", "empty, start, make, show or fold is missing",
+	  "\" is none of empty, start, make, show and fold" },
 	{ "must", "show is missing", "\" is not show" },
 	{ "owners", "all or show is missing", "\" is neither all nor show" },
 	{ "hex", "export or import is missing", "\" is neither export nor import" },
@@ -188,15 +192,15 @@ static void show_general(void)
 	puts("help         shows this, or the help of one command (also: COMMAND --help)");
 	fputs(general_help, stdout);
 	show_refusals(PAJURENDA_LENGTH, PAJURENDA_ROOM);
-	show_refusals(PAJURENDA_RESERVED, PAJURENDA_READ_ONLY);
+	show_refusals(PAJURENDA_RESERVED, PAJURENDA_FOLDED);
 	show_refusals(PAJURENDA_BLOCK, PAJURENDA_NOWHERE);
 	show_refusals(PAJURENDA_ORDER, PAJURENDA_UNKNOWN);
 	show_refusal(PAJURENDA_TEXT);
 	show_refusal(PAJURENDA_SPACE);
 	puts("\nAn image is judged in the order 1 to 12, 22, 13, 14, 25, 26, 27, a release then 28, 15, 23,\n"
-	     "16, 17, 24, 18, an export 1, 18, a place 30 to 33, 34, 35, 36, 37; the first that applies\n"
-	     "is told. The lists and outputs here are as long as they must be, so 20 and 53 are for\n"
-	     "other callers. Of an edition 1 image (header revision 1) 1 to 6 and 8 are judged; read\n"
+	     "16, 17, 24, 18, an export 1, 18, a fold 15, 16, 29, a place 30 to 33, 34, 35, 36, 37;\n"
+	     "the first that applies is told. The lists and outputs here are as long as they must be,\n"
+	     "so 20 and 53 are for other callers. Of an edition 1 image (header revision 1) 1 to 6 and 8 are judged; read\n"
 	     "and audit take it, byte for byte.");
 }
 

@@ -44,6 +44,7 @@ static const struct known option_names[] = {
 	{ "--must", MUST, " has no FILE after it" },
 	{ "--base", AT_BASE, " has no BASE after it" },
 	{ "--hex", AS_HEX, " has no FILE after it" },
+	{ "--image", WITH_IMAGE, " has no IMAGE after it" },
 };
 
 #define OPTION_NAMES (sizeof option_names / sizeof option_names[0])
@@ -97,6 +98,7 @@ static const char **place_of(struct options *options, unsigned option)
 	case MUST: return &options->must;
 	case AT_BASE: return &options->base;
 	case AS_HEX: return &options->hex;
+	case WITH_IMAGE: return &options->image;
 	default: return &options->reports;
 	}
 }
@@ -200,6 +202,8 @@ static enum status run_with(const struct command *command, const struct line *li
 						    word[0], "\"");
 	if (command->words[1] != NULL && is_many(command->words[1]))
 		return run_with_many(command, word, &line->options);
+	if (is_many(command->words[0]) && word[0] != NULL && word[1] != NULL)
+		return command->run(word, &line->options);
 	while (command->words[given] != NULL && word[given] != NULL)
 		given++;
 	if (command->words[given] != NULL && !is_optional(command->words[given]))

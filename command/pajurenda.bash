@@ -11,7 +11,7 @@ _pajurenda_word()
 	owners:0) echo lists ;;
 	hex:0) echo texts ;;
 	release:2) echo bases ;;
-	read:0 | release:[013] | setting:0 | audit:[01] | verify:* | handoff:0 | map:0 | place:[01] | station:0) echo files ;;
+	read:0 | release:[013] | setting:0 | audit:[01] | verify:* | sheet\ fold:* | handoff:0 | map:0 | place:[01] | station:0) echo files ;;
 	sheet\ empty:[01] | sheet\ start:[01] | sheet\ make:[012] | sheet\ show:[01] | owners\ all:[01] | owners\ show:[01] | must\ show:[01] | hex\ export:[01] | hex\ import:[01]) echo files ;;
 	*) echo nothing ;;
 	esac
@@ -27,6 +27,7 @@ _pajurenda_options()
 	verify) echo '--owners --owner --json --report --text --list --reports --names --names-strict --must --help' ;;
 	handoff | map) echo '--json --help' ;;
 	sheet\ show) echo '--json --names --names-strict --help' ;;
+	sheet\ fold) echo '--names --names-strict --image --help' ;;
 	setting | sheet\ start | sheet\ make | owners\ show | must\ show) echo '--names --names-strict --help' ;;
 	release) echo '--owners --owner --hex --help' ;;
 	hex\ export) echo '--base --json --help' ;;
@@ -53,7 +54,7 @@ _pajurenda_kind()
 	case $value:$ended$current in
 	--owner:*) echo numbers ;;
 	--base:*) echo bases ;;
-	--owners:* | --report:* | --text:* | --list:* | --reports:* | --names:* | --must:* | --hex:*) echo files ;;
+	--owners:* | --report:* | --text:* | --list:* | --reports:* | --names:* | --must:* | --hex:* | --image:*) echo files ;;
 	:-*) echo options ;;
 	*) _pajurenda_word "$command" "$words" ;;
 	esac
@@ -68,7 +69,7 @@ _pajurenda_pass()
 	fi
 	case $ended$1 in
 	--) ended=yes ;;
-	--owners | --owner | --report | --text | --list | --reports | --names | --must | --base | --hex) value=$1 ;;
+	--owners | --owner | --report | --text | --list | --reports | --names | --must | --base | --hex | --image) value=$1 ;;
 	-?*) ;;
 	*) _pajurenda_take "$1" ;;
 	esac
@@ -87,7 +88,7 @@ _pajurenda()
 	numbers) offered='1 2' ;;
 	commands) offered='read release sheet must owners setting audit verify hex handoff map place station help' ;;
 	topics) offered='read release sheet must owners setting audit verify hex handoff map place station' ;;
-	sheets) offered='empty start make show' ;;
+	sheets) offered='empty start make show fold' ;;
 	lists) offered='all show' ;;
 	texts) offered='export import' ;;
 	musts) offered='show' ;;

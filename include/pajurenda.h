@@ -1,8 +1,8 @@
 /*
  * pajurenda: reads, releases (sets and moves) and audits one firmware support image (FSP) in lent
- * memory, reads the list of hand-off blocks that firmware leaves after a boot, makes the map of free
- * memory from it and finds an image's place there, follows the order in which a boot calls the
- * firmware, and writes and reads the Intel HEX text of an image.
+ * memory, folds old release sheets into one, reads the list of hand-off blocks that firmware leaves
+ * after a boot, makes the map of free memory from it and finds an image's place there, follows the
+ * order in which a boot calls the firmware, and writes and reads the Intel HEX text of an image.
  *
  * A slice passes as a pointer and then its length in bytes. No pointer may be null, even where the
  * length is 0. A buffer that is written (an image to release, a list of places, an answer) must not
@@ -13,7 +13,8 @@
  * Each call writes its answer into the caller's answer buffer: 64-bit little-endian numbers at the
  * offsets named below, from the buffer's first byte. Bytes after the answer are kept. The call
  * returns the answer's number: 0 where accepted, else that of the refusal (images 1 to 20 and 22 to
- * 28, hand-off blocks 30 to 33, their memory 34 to 37, Intel HEX 1, 18, 50 and 53). Where the answer
+ * 28, folds 15, 16 and 29, hand-off blocks 30 to 33, their memory 34 to 37, Intel HEX 1, 18, 50 and
+ * 53). Where the answer
  * buffer is shorter than the answer, the call returns PAJURENDA_SHORT and nothing at all is written
  * anywhere. The calls of the station have no answer but the number they return (40 and 41 are
  * theirs), and a state in the answer buffer's place.
@@ -71,6 +72,7 @@ enum {
 	PAJURENDA_WORD = 26,      /* a word of the move where none may be; after 25 */
 	PAJURENDA_RELOCATION = 27, /* a relocation entry's type; after 26 */
 	PAJURENDA_READ_ONLY = 28, /* an edition 1 image, which is read and audited alone; after 27 */
+	PAJURENDA_FOLDED = 29,    /* the folded sheet is too large for a sheet, or for the output */
 	PAJURENDA_BLOCK = 30,     /* a hand-off block's header or length; after 32 */
 	PAJURENDA_FIRST = 31,     /* the first block isn't the handoff block of 56 bytes */
 	PAJURENDA_NOTHING = 32,   /* no byte is left where a block should stand; before 30 */
@@ -251,6 +253,14 @@ enum {
 	PAJURENDA_IMPORT_BYTES = 24
 };
 
+/* The answer of pajurenda_fold; where refused, zeros after the number. */
+enum {
+	PAJURENDA_FOLD_NUMBER = 0,
+	PAJURENDA_FOLD_LENGTH = 8,   /* how many bytes the folded sheet has */
+	PAJURENDA_FOLD_ENTRIES = 16, /* how many entries */
+	PAJURENDA_FOLD_BYTES = 24
+};
+
 /* The station: how long its state is, the calls of a boot, and the notifications of the last. */
 enum {
 	PAJURENDA_STATION_BYTES = 8,
@@ -307,6 +317,22 @@ uint32_t pajurenda_release(uint8_t *image, size_t image_length,
 /* Judges a release sheet by itself, for no image: number 0 and what it is for, or refusal 15. */
 uint32_t pajurenda_sheet(const uint8_t *sheet, size_t sheet_length,
 			 uint8_t *answer, size_t answer_length);
+
+/*
+ * Folds a pile of sheets into one, written from the output's first byte on. A pile is sheets one
+ * after the other in the order they were applied, each after its length, four little-endian bytes.
+ * Refusals of the first sheet at fault, 15 (also for a pile of no bytes, a length that is cut short
+ * and one past the pile's end) or 16 (its identity, revision or extended number isn't the first
+ * sheet's); then 29, where the folded sheet would have more than 256 entries, more than
+ * PAJURENDA_MOST_SHEET bytes, or more than the output. At each offset that sheets set, the last
+ * one's byte is set, and what touches is one entry: a release with the folded sheet makes the image
+ * that releases with each of the pile to the same base make, wherever each of them is accepted.
+ * What the output holds after the sheet is kept; one of PAJURENDA_MOST_SHEET bytes is never too
+ * short.
+ */
+uint32_t pajurenda_fold(const uint8_t *pile, size_t pile_length,
+			uint8_t *output, size_t output_length,
+			uint8_t *answer, size_t answer_length);
 
 /*
  * Finds one setting by offset in the region and size; the image's own refusals, then 28, 17. Its
@@ -660,6 +686,7 @@ static inline const char *pajurenda_name(uint32_t number)
 	case PAJURENDA_WORD: return "WORD";
 	case PAJURENDA_RELOCATION: return "RELOCATION";
 	case PAJURENDA_READ_ONLY: return "READ-ONLY";
+	case PAJURENDA_FOLDED: return "FOLDED";
 	case PAJURENDA_BLOCK: return "BLOCK";
 	case PAJURENDA_FIRST: return "FIRST";
 	case PAJURENDA_NOTHING: return "NOTHING";
@@ -789,6 +816,9 @@ static inline const char *pajurenda_sentence(uint32_t number)
 	case PAJURENDA_READ_ONLY:
 		return "an edition 1 image (header revision 1) can only be read and audited, byte for "
 		       "byte: its settings and the words of a move can't be told apart";
+	case PAJURENDA_FOLDED:
+		return "a folded sheet must have at most 256 entries, once those that touch are joined, and "
+		       "65535 bytes, and room in the output";
 	case PAJURENDA_PAIR: return "the two images must be equally long";
 	case PAJURENDA_ROOM: return "the list must have a place for each difference, or for each entry";
 	case PAJURENDA_ORDER:

@@ -99,7 +99,10 @@ offers 'keep' release image image ''
 offers '' release image image 0
 offers 'a b|image' release image image keep ''
 offers '' release image image keep image ''
-offers 'empty|make|show|start' sheet ''
+offers 'empty|fold|make|show|start' sheet ''
+offers '--help|--image|--names|--names-strict' sheet fold -
+offers 'a b|image' sheet fold --image ''
+offers 'a b|image' sheet fold image image image image ''
 offers 'make' sheet m
 offers 'a b|image' sheet empty ''
 offers 'a b|image' sheet empty image ''

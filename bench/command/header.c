@@ -95,6 +95,16 @@ static void try_map(void)
 	check(pajurenda_free_first(map, 1) == 0x8000000000000001 && pajurenda_free_last(map, 1) == 0xFF00000000000002, "the second");
 }
 
+/* 29, and the answer of a fold. */
+static void try_fold(void)
+{
+	check(strcmp(pajurenda_name(29), "FOLDED") == 0, "the name of 29");
+	check(strlen(pajurenda_sentence(29)) > 10 && !pajurenda_has_index(29), "29");
+	for (uint32_t j = 0; j < 101; j++)
+		check(j == 29 || strcmp(pajurenda_sentence(29), pajurenda_sentence(j)) != 0, "two sentences alike");
+	check(PAJURENDA_FOLD_ENTRIES + 8 == PAJURENDA_FOLD_BYTES, "the length of a fold's answer");
+}
+
 /* 50 and 53, and the answers of the Intel HEX calls. */
 static void try_hex(void)
 {
@@ -124,7 +134,7 @@ static void try_numbers(void)
 	}
 	check(strcmp(pajurenda_name(PAJURENDA_SHORT), "SHORT") == 0, "the name of 100");
 	check(strcmp(pajurenda_sentence(PAJURENDA_SHORT), "unknown") != 0, "the sentence of 100");
-	static const uint32_t others[] = { 21, 29, 38, 39, 42, 49, 51, 52, 54, 99, 101, 65536, 65537, 4294967295u };
+	static const uint32_t others[] = { 21, 38, 39, 42, 49, 51, 52, 54, 99, 101, 65536, 65537, 4294967295u };
 	for (size_t i = 0; i < sizeof others / sizeof others[0]; i++) {
 		check(strcmp(pajurenda_name(others[i]), "unknown") == 0, "a name of no answer");
 		check(strcmp(pajurenda_sentence(others[i]), "unknown") == 0, "a sentence of no answer");
@@ -287,6 +297,7 @@ int main(void)
 	try_handoff();
 	try_station();
 	try_map();
+	try_fold();
 	try_hex();
 	try_fields();
 	try_image_version();

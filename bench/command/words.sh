@@ -14,9 +14,9 @@ help_is() {
 try_help() {
 	works 0 --help
 	cp "$work/out" "$work/help.all"
-	for word in read release 'sheet empty' 'sheet start' 'sheet make' 'sheet show' 'must show' 'owners all' 'owners show' setting audit verify 'hex export' 'hex import' handoff map place station help --modules --words --bytes \
-		--ranges --json --report --text --list --reports --owners --owner --names --must --base --hex --version 'Exit status' ' 20  ROOM' ' 22  RESERVED' ' 23  OWNERS' ' 24  OWNER' \
-		' 25  MODULE' ' 26  WORD' ' 27  RELOCATION' ' 28  READ-ONLY' '1 to 12, 22, 13, 14, 25, 26, 27' '28, 15, 23,' ' 33  KIND' ' 34  ABOVE' ' 35  MANY' ' 36  IMAGE' ' 37  NOWHERE' ' 40  ORDER' ' 41  UNKNOWN' ' 50  TEXT' ' 53  SPACE'; do
+	for word in read release 'sheet empty' 'sheet start' 'sheet make' 'sheet show' 'sheet fold' 'must show' 'owners all' 'owners show' setting audit verify 'hex export' 'hex import' handoff map place station help --modules --words --bytes \
+		--ranges --json --report --text --list --reports --owners --owner --names --must --base --hex --image --version 'Exit status' ' 20  ROOM' ' 22  RESERVED' ' 23  OWNERS' ' 24  OWNER' \
+		' 25  MODULE' ' 26  WORD' ' 27  RELOCATION' ' 28  READ-ONLY' ' 29  FOLDED' '1 to 12, 22, 13, 14, 25, 26, 27' '28, 15, 23,' ' 33  KIND' ' 34  ABOVE' ' 35  MANY' ' 36  IMAGE' ' 37  NOWHERE' ' 40  ORDER' ' 41  UNKNOWN' ' 50  TEXT' ' 53  SPACE'; do
 		grep -qF -e "$word" "$work/out" || fail "the help does not speak of $word"
 		passed
 	done
@@ -216,16 +216,16 @@ try_two_words() {
 		help_is sheet $words
 	done
 	sheet_see='(see pajurenda sheet --help)'
-	fails_with "pajurenda: sheet: empty, start, make or show is missing $sheet_see" sheet
-	fails_with "pajurenda: sheet: \"nonsense\" is none of empty, start, make and show $sheet_see" sheet nonsense a b
-	fails_with "pajurenda: sheet: \"help\" is none of empty, start, make and show $sheet_see" sheet help a
+	fails_with "pajurenda: sheet: empty, start, make, show or fold is missing $sheet_see" sheet
+	fails_with "pajurenda: sheet: \"nonsense\" is none of empty, start, make, show and fold $sheet_see" sheet nonsense a b
+	fails_with "pajurenda: sheet: \"help\" is none of empty, start, make, show and fold $sheet_see" sheet help a
 	fails_with "pajurenda: help: one word too many: \"nonsense\" $see" help sheet nonsense
 	fails_with "pajurenda: help: one word too many: \"a\" $see" help sheet make a
 	fails_with "pajurenda: unknown command \"make\" $see" make a b c
 	fails_with "pajurenda: unknown command \"sheet make\" $see" 'sheet make' a b c
 	fails_with "pajurenda: unknown command \"she\" $see" she make a b c
 	fails_with "pajurenda: unknown command \"sheets\" $see" sheets make a b c
-	fails_with "pajurenda: sheet: \"maker\" is none of empty, start, make and show $sheet_see" sheet maker a b c
+	fails_with "pajurenda: sheet: \"maker\" is none of empty, start, make, show and fold $sheet_see" sheet maker a b c
 	fails_with 'pajurenda: sheet empty: IMAGE and OUT are missing (see pajurenda sheet empty --help)' sheet empty
 	fails_with 'pajurenda: sheet make: TEXT and OUT are missing (see pajurenda sheet make --help)' sheet make a
 	fails_with 'pajurenda: sheet make: one word too many: "d" (see pajurenda sheet make --help)' sheet make a b c d

@@ -4,6 +4,7 @@
 #include <stdlib.h>
 
 #include "../second/handoff.h"
+#include "../second/fold.h"
 #include "../second/hex.h"
 #include "../second/map.h"
 #include "../second/second.h"
@@ -149,6 +150,19 @@ uint32_t pajurenda_lowest_base(const uint8_t *buffer, size_t length, uint64_t si
 		return PAJURENDA_SHORT;
 	const struct second_place r = second_place(buffer, length, size);
 	const uint64_t fields[] = { r.number, r.base };
+	put_fields(answer, fields, FIELDS(fields));
+	return (uint32_t)r.number;
+}
+
+/* A pile as one sheet. */
+uint32_t pajurenda_fold(const uint8_t *pile, size_t pile_length,
+			uint8_t *output, size_t output_length,
+			uint8_t *answer, size_t answer_length)
+{
+	if (answer_length < PAJURENDA_FOLD_BYTES)
+		return PAJURENDA_SHORT;
+	const struct second_folded r = second_fold(pile, pile_length, output, output_length);
+	const uint64_t fields[] = { r.number, r.length, r.count };
 	put_fields(answer, fields, FIELDS(fields));
 	return (uint32_t)r.number;
 }

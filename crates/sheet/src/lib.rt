@@ -102,7 +102,7 @@ pub fn sheet_fits(sheet: &[u8]) -> bool
 }
 
 // The identity that the sheet names.
-fn identity_of(sheet: &[u8]) -> Identity
+pub fn identity_of(sheet: &[u8]) -> Identity
     requires { ⌜ 16 ≤ length (now sheet) ⌝ }
     ensures { λ r. ⌜ r ≡ sheetIdentity (now (sheet .entry)) ⌝ }
 {

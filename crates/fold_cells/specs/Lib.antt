@@ -1,0 +1,4 @@
+pub mod SetAt
+pub mod Cells
+pub mod CellsLaws
+pub mod ReachLaws

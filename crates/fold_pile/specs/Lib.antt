@@ -1,0 +1,2 @@
+pub mod Pile
+pub mod PileLaws

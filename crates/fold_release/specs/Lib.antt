@@ -1,0 +1,4 @@
+pub mod Each
+pub mod EachLaws
+pub mod Theorems
+pub mod Small

@@ -1,0 +1,1 @@
+// Theorems alone: a release with the folded sheet.

@@ -1,0 +1,4 @@
+pub mod Folded
+pub mod Placing
+pub mod PlacingLaws
+pub mod WindowLaws
