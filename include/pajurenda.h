@@ -2,7 +2,8 @@
  * pajurenda: reads, releases (sets and moves) and audits one firmware support image (FSP) in lent
  * memory, folds old release sheets into one, reads the list of hand-off blocks that firmware leaves
  * after a boot, makes the map of free memory from it and finds an image's place there, follows the
- * order in which a boot calls the firmware, and writes and reads the Intel HEX text of an image.
+ * order in which a boot calls the firmware, writes and reads the Intel HEX text of an image, and gives
+ * the SHA-256 digest of any bytes.
  *
  * A slice passes as a pointer and then its length in bytes. No pointer may be null, even where the
  * length is 0. A buffer that is written (an image to release, a list of places, an answer) must not
@@ -14,10 +15,10 @@
  * offsets named below, from the buffer's first byte. Bytes after the answer are kept. The call
  * returns the answer's number: 0 where accepted, else that of the refusal (images 1 to 20 and 22 to
  * 28, folds 15, 16 and 29, hand-off blocks 30 to 33, their memory 34 to 37, Intel HEX 1, 18, 50 and
- * 53). Where the answer
- * buffer is shorter than the answer, the call returns PAJURENDA_SHORT and nothing at all is written
- * anywhere. The calls of the station have no answer but the number they return (40 and 41 are
- * theirs), and a state in the answer buffer's place.
+ * 53). Where the answer buffer is shorter than the answer, the call returns PAJURENDA_SHORT and
+ * nothing at all is written anywhere. The calls of the station have no answer but the number they
+ * return (40 and 41 are theirs), and a state in the answer buffer's place; the answer of
+ * pajurenda_sha256 is the digest's bytes and nothing else.
  *
  * A refused call changes no byte of an image, of a list, of a state or of an output.
  *
@@ -41,6 +42,10 @@ extern "C" {
 #define PAJURENDA_VERSION_MAJOR 0
 #define PAJURENDA_VERSION_MINOR 15
 #define PAJURENDA_VERSION_PATCH 0
+
+/* The three in one word; the library's own, at run time, is that of pajurenda_version. */
+#define PAJURENDA_VERSION_NUMBER \
+	((uint32_t)(65536 * PAJURENDA_VERSION_MAJOR + 256 * PAJURENDA_VERSION_MINOR + PAJURENDA_VERSION_PATCH))
 
 /* The answer's number. A check is made only if all earlier ones passed. */
 enum {
@@ -261,6 +266,9 @@ enum {
 	PAJURENDA_FOLD_BYTES = 24
 };
 
+/* The answer of pajurenda_sha256: the digest, byte by byte as it is written in hex. */
+enum { PAJURENDA_SHA256_BYTES = 32 };
+
 /* The station: how long its state is, the calls of a boot, and the notifications of the last. */
 enum {
 	PAJURENDA_STATION_BYTES = 8,
@@ -424,6 +432,17 @@ uint32_t pajurenda_hex_export(const uint8_t *bytes, size_t length, uint64_t base
 uint32_t pajurenda_hex_import(const uint8_t *text, size_t text_length,
 			      uint8_t *bytes, size_t length,
 			      uint8_t *answer, size_t answer_length);
+
+/*
+ * The SHA-256 digest (FIPS 180-4) of any bytes, into the first PAJURENDA_SHA256_BYTES of the answer:
+ * always 0, or PAJURENDA_SHORT where the answer has no room for it. (The standard has no digest for
+ * 2^61 bytes or more, which no machine holds: 1, and nothing is written.)
+ */
+uint32_t pajurenda_sha256(const uint8_t *bytes, size_t length, uint8_t *answer,
+			  size_t answer_length);
+
+/* The library's version in one word: PAJURENDA_VERSION_NUMBER where header and library are of one. */
+uint32_t pajurenda_version(void);
 
 /* ---- for the caller's ease: nothing below judges an image or a list ---- */
 

@@ -105,7 +105,7 @@ static void try_fold(void)
 	check(PAJURENDA_FOLD_ENTRIES + 8 == PAJURENDA_FOLD_BYTES, "the length of a fold's answer");
 }
 
-/* 50 and 53, and the answers of the Intel HEX calls. */
+/* 50 and 53, the answers of the Intel HEX calls and of the digest's. */
 static void try_hex(void)
 {
 	static const uint32_t numbers[] = { 50, 53 };
@@ -118,6 +118,7 @@ static void try_hex(void)
 	check(PAJURENDA_EXPORT_LENGTH + 8 == PAJURENDA_EXPORT_BYTES, "the length of an export's answer");
 	check(PAJURENDA_IMPORT_LENGTH + 8 == PAJURENDA_IMPORT_BYTES, "the length of an import's answer");
 	check(PAJURENDA_MOST_HEX == 12 * 1048576 + 2 * 16777216 + 16 * 257 + 12, "the longest text");
+	check(PAJURENDA_SHA256_BYTES == 32, "the length of a digest");
 }
 
 /* Each number has its name and a sentence that no other has. */
@@ -289,6 +290,8 @@ static void try_version(void)
 	char version[32];
 	snprintf(version, sizeof version, "%d.%d.%d", PAJURENDA_VERSION_MAJOR, PAJURENDA_VERSION_MINOR, PAJURENDA_VERSION_PATCH);
 	check(strcmp(version, PAJURENDA_VERSION) == 0, "the version");
+	check(PAJURENDA_VERSION_NUMBER >> 16 == PAJURENDA_VERSION_MAJOR && (PAJURENDA_VERSION_NUMBER >> 8 & 255) == PAJURENDA_VERSION_MINOR &&
+	      (PAJURENDA_VERSION_NUMBER & 255) == PAJURENDA_VERSION_PATCH, "the version in one word");
 }
 
 int main(void)

@@ -7,6 +7,7 @@
 #include "../second/fold.h"
 #include "../second/hex.h"
 #include "../second/map.h"
+#include "../second/sha256.h"
 #include "../second/second.h"
 #include "../second/station.h"
 
@@ -191,6 +192,21 @@ uint32_t pajurenda_hex_import(const uint8_t *text, size_t text_length,
 	const uint64_t fields[] = { r.number, r.base, r.length };
 	put_fields(answer, fields, FIELDS(fields));
 	return (uint32_t)r.number;
+}
+
+/* The digest of bytes. */
+uint32_t pajurenda_sha256(const uint8_t *bytes, size_t length, uint8_t *answer, size_t answer_length)
+{
+	if (answer_length < PAJURENDA_SHA256_BYTES)
+		return PAJURENDA_SHORT;
+	second_sha256(bytes, length, answer);
+	return PAJURENDA_ACCEPTED;
+}
+
+/* The header's own. */
+uint32_t pajurenda_version(void)
+{
+	return PAJURENDA_VERSION_NUMBER;
 }
 
 /* One call in a boot log; our own state number is the state. */

@@ -1,0 +1,1 @@
+// Theorems alone: bytes in parts, and the standard's examples.
