@@ -111,7 +111,9 @@ void show_line(const struct bytes *dump, const uint8_t *block)
 	putchar('\n');
 }
 
-/* ---- for a program: JSON; many readers cut its numbers above 2^53, so 64 bits are text ---- */
+/* ---- for a program: JSON; many readers cut its numbers from 2^53 on ---- */
+
+#define MOST_NUMBER ((uint64_t)1 << 53)
 
 /* What stands between quotes is ours or hex digits: nothing needs an escape. */
 static void write_resource(const struct bytes *dump, const uint8_t *block)
@@ -122,7 +124,11 @@ static void write_resource(const struct bytes *dump, const uint8_t *block)
 	printf(", \"attributes\": \"0x%08" PRIX64 "\", \"start\": \"0x%08" PRIX64 "\"",
 	       pajurenda_field(block, PAJURENDA_HANDOFF_ATTRIBUTES),
 	       pajurenda_field(block, PAJURENDA_HANDOFF_START));
-	printf(", \"size\": \"0x%08" PRIX64 "\", \"last\": ", size);
+	if (size < MOST_NUMBER)
+		printf(", \"size\": %" PRIu64, size);
+	else
+		fputs(", \"size\": null", stdout);
+	printf(", \"size_hex\": \"0x%08" PRIX64 "\", \"last\": ", size);
 	fputs(size == 0 ? "null" : "\"", stdout);
 	if (size != 0)
 		show_last(block);

@@ -7,10 +7,8 @@
 #include <inttypes.h>
 #include <string.h>
 
+#include "messages.h"
 #include "pajurenda.h"
-
-/* How much of a word is shown. */
-#define MOST_SHOWN 40
 
 /* ---- names ---- */
 
@@ -94,12 +92,34 @@ static bool take_words(const struct text *text, const char *word, char **rest, s
 	return call->call != PAJURENDA_CALL_NOTIFY_PHASE || take_notification(text, rest, call);
 }
 
+/* How long the time is that a line begins with: up to its bracket, or a number up to its colon; 0 where there is
+   none. What stands in brackets must have a digit. */
+static size_t length_of_stamp(const char *line)
+{
+	const size_t length = strcspn(line, *line == '[' ? "]" : ":");
+	if (line[length] == 0)
+		return 0;
+	if (*line == '[')
+		return strcspn(line, "0123456789") < length ? length + 1 : 0;
+	const size_t whole = strspn(line, "0123456789"), part = line[whole] == '.' ? whole + 1 : whole;
+	return whole > 0 && part + strspn(line + part, "0123456789") == length ? length + 1 : 0;
+}
+
+/* The time noted, and passed over. */
+static char *pass_stamp(char *line, struct call *call)
+{
+	call->stamp = line + strspn(line, " \t");
+	call->stamp_length = length_of_stamp(call->stamp);
+	return call->stamp_length == 0 ? line : line + (call->stamp - line) + call->stamp_length;
+}
+
 /* A line of any kind; NOT_READ after a message. */
 enum told take_call(const struct text *text, char *line, struct call *call)
 {
 	*call = (struct call){ .unknown = NULL };
 	if (!is_clean(text, line))
 		return NOT_READ;
+	line = pass_stamp(line, call);
 	const char *word = next_word(&line);
 	if (word == NULL)
 		return NOTHING_TOLD;
@@ -118,7 +138,9 @@ enum told take_call(const struct text *text, char *line, struct call *call)
 /* A word that nothing is named, in quotes; of a long one its start. */
 static void show_unknown(FILE *to, const char *word)
 {
-	fprintf(to, "\"%.*s%s\"", MOST_SHOWN, word, strlen(word) > MOST_SHOWN ? ".." : "");
+	fputc('"', to);
+	put_start(to, word);
+	fputc('"', to);
 }
 
 /* A notification: its number and name, or what stands in their place. */

@@ -5,6 +5,8 @@
 #include <stdio.h>
 
 #include "edition.h"
+#include "fields.h"
+#include "inside.h"
 #include "json.h"
 #include "json_names.h"
 #include "letters.h"
@@ -22,8 +24,8 @@ static void write_bytes(const char *name, const struct bytes *file, const struct
 		fputs("null", stdout);
 }
 
-/* Of a verify: which entry sets a setting, and whether the file has the maker's bytes. */
-static void write_setter(const struct range *range)
+/* Which entry sets a setting last. */
+static void write_set(const struct range *range)
 {
 	fputs(", \"set_by\": ", stdout);
 	if (range->stray || range->set.sheet == 0)
@@ -31,26 +33,39 @@ static void write_setter(const struct range *range)
 	else
 		printf("{\"sheet\": %" PRIu32 ", \"entry\": %" PRIu32 "}", range->set.sheet - 1,
 		       range->set.entry);
+}
+
+/* Of a verify: which entry sets a setting, and whether the file has the maker's bytes. */
+static void write_setter(const struct range *range)
+{
+	write_set(range);
 	printf(", \"makers\": %s", !range->stray && !range->set.changed ? "true" : "false");
 }
 
 /* Which word it is, and the module that holds the range. */
 static void write_lying(const struct ranges *ranges, const struct lying *where)
 {
-	if (where->room == PATCH_WORD || where->room == RELOCATION_WORD)
+	if (where->room == PATCH_WORD || where->room == RELOCATION_WORD || where->room == IN_VOLUME)
 		printf(", \"index\": %" PRIu64, where->index);
 	else
 		fputs(", \"index\": null", stdout);
+	fputs(where->room == TABLES ? ", \"field\": \"" : ", \"field\": null", stdout);
+	if (where->room == TABLES) {
+		put_field(stdout, where->index);
+		putchar('"');
+	}
 	if (where->module == NO_MODULE) {
-		fputs(", \"module\": null, \"file\": null", stdout);
+		fputs(", \"module\": null, \"module_name\": null, \"file\": null", stdout);
 		return;
 	}
-	printf(", \"module\": %" PRIu64 ", \"file\": \"", where->module);
+	printf(", \"module\": %" PRIu64 ", \"module_name\": ", where->module);
+	json_module_name(ranges->map.contents, where->module);
+	fputs(", \"file\": \"", stdout);
 	show_guid(stdout, guid_of(ranges->map.contents, where->module));
 	putchar('"');
 }
 
-/* The same members for every range; offset, index, module and file are null where there is none. */
+/* The same members for every range; offset, index, field, module, its name and file are null where there is none. */
 static void write_range(const struct ranges *ranges, const struct range *range, const char *before)
 {
 	const struct check *check = ranges->check;
@@ -90,6 +105,42 @@ static void write_ranges(const struct check *check)
 	printf("%s]", *before == 0 ? "" : "\n  ");
 }
 
+/* Who released a sheet, and by which list; null where whose the settings are had no say. */
+static void write_releaser(const struct releaser *releaser)
+{
+	if (releaser->list == NULL) {
+		fputs(", \"owners\": null, \"owner\": null", stdout);
+		return;
+	}
+	fputs(", \"owners\": ", stdout);
+	put_json_text(stdout, releaser->list->file.name);
+	printf(", \"owner\": %" PRIu64, releaser->owner);
+}
+
+/* Every setting that isn't the maker's any more, and who set it; null in an audit. */
+static void write_changed(const struct check *check)
+{
+	struct ranges ranges;
+	struct range range;
+	const char *before = "";
+	fputs(check->verify ? ",\n  \"changed\": [" : ",\n  \"changed\": null", stdout);
+	if (!check->verify)
+		return;
+	start_changes(&ranges, check);
+	while (ferror(stdout) == 0 && next_range(&ranges, &range)) {
+		if (range.stray)
+			continue;
+		printf("%s\n    {\"offset\": %" PRIu64 ", \"place\": %" PRIu64 ", \"length\": %" PRIu64, before,
+		       range.first - ranges.map.region, range.first, length_of(&range));
+		write_bytes("makers", &check->vendor.bytes, &range);
+		write_bytes("is", &check->shipped.bytes, &range);
+		write_set(&range);
+		putchar('}');
+		before = ",";
+	}
+	printf("%s]", *before == 0 ? "" : "\n  ");
+}
+
 /* The sheets by name, in the order they were applied. */
 static void write_sheets(const struct check *check)
 {
@@ -100,63 +151,24 @@ static void write_sheets(const struct check *check)
 		printf(", \"length\": %zu", check->sheets[i].bytes.length);
 		if (check->number == PAJURENDA_ACCEPTED)
 			printf(", \"entries\": %" PRIu64, number_at(&check->sheets[i].bytes, 12, 2));
+		write_releaser(&check->releasers[i]);
 		putchar('}');
 	}
 	fputs("\n  ]", stdout);
 }
 
-/* The owner list, and who released by it; null where none was named. */
+/* The owner list and who released by it, where one is for all sheets; null where none is. */
 static void write_owner(const struct check *check)
 {
-	json_text("owners", check->list.name);
-	if (check->list.name != NULL)
-		json_number("owner", check->owner);
+	const struct releaser *first = &check->releasers[0];
+	bool one = check->sheet_count > 0 && first->list != NULL;
+	for (size_t i = 1; i < check->sheet_count; i++)
+		one = one && check->releasers[i].list == first->list && check->releasers[i].owner == first->owner;
+	json_text("owners", one ? first->list->file.name : NULL);
+	if (one)
+		json_number("owner", first->owner);
 	else
 		json_text("owner", NULL);
-}
-
-/* One thing that must be, with what is, and what the maker's image has. */
-static void write_need(const struct need *need, const char *before)
-{
-	const struct change *change = &need->change;
-	printf("%s\n      {\"line\": %zu, \"offset\": %" PRIu64 ", \"place\": %" PRIu64 ", \"length\": %zu"
-	       ", \"name\": ", before, need->line, change->offset, change->place, change->length);
-	if (need->label == NULL)
-		fputs("null", stdout);
-	else
-		put_json_text(stdout, need->label->name);
-	fputs(", \"must\": ", stdout);
-	json_bytes(need->bytes, change->length);
-	fputs(", \"is\": ", stdout);
-	if (need->is == NULL)
-		fputs("null", stdout);
-	else
-		json_bytes(need->is, change->length);
-	fputs(", \"makers\": ", stdout);
-	json_bytes(change->old, change->length);
-	printf(", \"held\": %s}", need->held ? "true" : "false");
-}
-
-/* What must be; null where nothing was asked for. */
-static void write_must(const struct must *must)
-{
-	fputs(",\n  \"must\": ", stdout);
-	if (must->file.name == NULL) {
-		fputs("null", stdout);
-		return;
-	}
-	fputs("{\"file\": ", stdout);
-	put_json_text(stdout, must->file.name);
-	fputs(", \"base\": {\"must\": ", stdout);
-	if (must->any_base)
-		fputs("null", stdout);
-	else
-		printf("\"0x%08" PRIX64 "\"", must->base);
-	printf(", \"is\": \"0x%08" PRIX64 "\", \"makers\": \"0x%08" PRIX64 "\", \"held\": %s}, \"settings\": [",
-	       must->is_base, must->makers_base, is_base_held(must) ? "true" : "false");
-	for (size_t i = 0; i < must->count && ferror(stdout) == 0; i++)
-		write_need(&must->need[i], i == 0 ? "" : ",");
-	fputs(must->count == 0 ? "]}" : "\n    ]}", stdout);
 }
 
 /* What an accepted check found. */
@@ -165,16 +177,43 @@ static void write_found(const struct check *check)
 	json_naming(&check->naming);
 	json_number("edition", pajurenda_edition(check->reading));
 	json_hex("base", 8, count_of(check, PAJURENDA_AUDIT_BASE));
+	if (check->has_base)
+		json_hex("base_wanted", 8, check->base);
+	else
+		json_text("base_wanted", NULL);
 	if (is_older(check->reading))
 		json_text("move", NULL);
 	else
-		printf(",\n  \"move\": %" PRId64,
-		       pajurenda_signed_field(check->moved, PAJURENDA_RELEASE_MOVE));
+		json_signed("move", pajurenda_signed_field(check->moved, PAJURENDA_RELEASE_MOVE));
+	json_text("against", reference_name(check));
 	json_number("settings", count_of(check, PAJURENDA_AUDIT_SETTINGS));
 	json_number("strays", count_of(check, PAJURENDA_AUDIT_STRAYS));
 	json_number("bits", count_of(check, PAJURENDA_AUDIT_BITS));
 	write_ranges(check);
-	write_must(&check->must);
+	write_changed(check);
+	json_text("other", other_of(check));
+	json_must(&check->must);
+}
+
+/* What is said of the files on standard error. */
+static void write_notes(const struct check *check)
+{
+	fputs(",\n  \"notes\": [", stdout);
+	for (size_t i = 0; i < check->note_count; i++) {
+		fputs(i == 0 ? "" : ", ", stdout);
+		put_json_text(stdout, check->notes[i]);
+	}
+	putchar(']');
+}
+
+/* The base that most words agree on where the base word is damaged; null where it isn't. */
+static void write_agreed(const struct agreed *agreed)
+{
+	if (agreed->found)
+		printf(",\n  \"agreed\": {\"base\": \"0x%08" PRIX32 "\", \"words\": %" PRIu64 ", \"of\": %" PRIu64 "}",
+		       agreed->base, agreed->agreeing, agreed->words);
+	else
+		json_text("agreed", NULL);
 }
 
 /* The whole document, of a refused check too. */
@@ -183,18 +222,24 @@ enum status write_check(const struct check *check)
 	const bool refused = check->number != PAJURENDA_ACCEPTED;
 	begin_json(check->verify ? "verify" : "audit");
 	json_text("vendor", check->vendor.name);
+	json_text("vouched", check->vouched);
+	json_text("record", check->record.name);
 	if (check->verify) {
 		write_sheets(check);
 		write_owner(check);
 	}
 	json_text("shipped", check->shipped.name);
+	json_text("report_number", check->options->number);
+	json_text("note", check->options->note);
+	write_notes(check);
+	write_agreed(&check->agreed);
 	json_answer(check->number, check->index);
 	if (refused)
 		json_text("refused", check->refused->name);
 	else
 		write_found(check);
 	json_text("required", required_of(check));
-	json_text("not_checked", left_open(check));
+	json_text("not_checked", unchecked_of(check));
 	json_text("verdict", verdict_of(check));
 	end_json();
 	return status_of(check);

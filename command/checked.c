@@ -3,122 +3,49 @@
 
 #include <errno.h>
 #include <stdlib.h>
+#include <string.h>
 
 #include "edition.h"
 #include "files.h"
 #include "messages.h"
-#include "numbers.h"
 #include "released.h"
 #include "sheets.h"
-
-/* ---- the files ---- */
-
-/* Every sheet; false after a message. */
-static bool load_sheets(struct check *check)
-{
-	for (size_t i = 0; i < check->sheet_count; i++)
-		if (!load(check->sheets[i].name, &check->sheets[i].bytes))
-			return false;
-	return true;
-}
-
-/* How many names there are. */
-static size_t count_names(char **word)
-{
-	size_t count = 0;
-	while (word[count] != NULL)
-		count++;
-	return count;
-}
-
-/* The names between the first word and the last are sheets; false where there is no memory. */
-static bool name_files(struct check *check, char **word)
-{
-	const size_t count = count_names(word);
-	check->vendor.name = word[0];
-	check->shipped.name = word[count - 1];
-	check->sheet_count = count - 2;
-	check->sheets = calloc(count, sizeof *check->sheets);
-	if (check->sheets == NULL)
-		return false;
-	for (size_t i = 0; i < check->sheet_count; i++)
-		check->sheets[i].name = word[i + 1];
-	return true;
-}
-
-/* The owner list where one is named, and who releases; the file's own bytes stay as they are, for its
-   digest. False after a message. */
-static bool load_list(struct check *check, const struct options *options)
-{
-	struct bytes copy;
-	check->list.name = options->owners;
-	if (options->owners == NULL)
-		return true;
-	if (!take_number("verify", "--owner", options->owner, &check->owner) ||
-	    !load(check->list.name, &check->list.bytes))
-		return false;
-	if (!copy_bytes(&check->list.bytes, &copy)) {
-		fail_no_memory(check->list.name);
-		return false;
-	}
-	return take_owners(check->list.name, &copy, &check->owners);
-}
-
-/* VENDOR SHIPPED, or VENDOR SHEET.. SHIPPED, in memory; false after a message. */
-bool load_check(struct check *check, bool verify, char **word, const struct options *options)
-{
-	*check = (struct check){ .verify = verify, .options = options };
-	if (!name_files(check, word)) {
-		fail_no_memory(word[0]);
-		return false;
-	}
-	return load(check->vendor.name, &check->vendor.bytes) && load_sheets(check) &&
-	       load_list(check, options) && load(check->shipped.name, &check->shipped.bytes);
-}
-
-/* All memory back. */
-void end_check(struct check *check)
-{
-	for (size_t i = 0; i < check->sheet_count; i++)
-		free(check->sheets[i].bytes.at);
-	free(check->sheets);
-	end_must(&check->must);
-	end_naming(&check->naming);
-	free_owners(&check->owners);
-	free(check->list.bytes.at);
-	free(check->vendor.bytes.at);
-	free(check->shipped.bytes.at);
-	free(check->reference.at);
-	free(check->found.places);
-	free(check->settled);
-	free_contents(&check->contents);
-}
 
 /* ---- refusals ---- */
 
 /* 18 of the shipped file: the base that stands at the vendor's place of it. */
-static enum status refuse_its_base(const struct check *check)
+static enum status refuse_its_base(struct check *check)
 {
-	return refuse_shipped_base(&check->shipped,
-				   pajurenda_field(check->reading, PAJURENDA_READ_HEADER) + 28);
+	find_agreed(check, NULL);
+	begin_shipped_base(&check->shipped, pajurenda_field(check->reading, PAJURENDA_READ_HEADER) + 28);
+	if (check->agreed.found) {
+		fputs("; ", saying());
+		put_agreed(saying(), check);
+	}
+	return end_refusal();
 }
 
-/* The release of one sheet, as it is asked for here: at the vendor's own base. */
-static struct asking ask_for(const struct check *check, const struct named *sheet)
+/* The release of one sheet, as it is asked for here: to the base of its step in a record, else at the vendor's own,
+   since one move at the end is as good as one at each. */
+static struct asking ask_for(const struct check *check, size_t sheet)
 {
+	const struct releaser *releaser = &check->releasers[sheet];
 	return (struct asking){ .image = &check->vendor,
-				.sheet = sheet,
-				.base = pajurenda_field(check->reading, PAJURENDA_READ_BASE),
-				.owners = check->list.name == NULL ? NULL : &check->owners,
-				.owner = check->owner };
+				.sheet = &check->sheets[sheet],
+				.base = check->record.name != NULL
+						? check->record.steps[sheet].after
+						: pajurenda_field(check->reading, PAJURENDA_READ_BASE),
+				.owners = releaser->list == NULL ? NULL : &releaser->list->owners,
+				.owner = releaser->owner };
 }
 
 /* A refusal of a release: of the sheet, or of the list that it goes by. */
 static enum status refuse_sheet_here(struct check *check, uint32_t number, const struct named *sheet)
 {
-	const struct asking asking = ask_for(check, sheet);
-	if (number == PAJURENDA_OWNERS)
-		check->refused = &check->list;
+	const size_t index = (size_t)(sheet - check->sheets);
+	const struct asking asking = ask_for(check, index);
+	if (number == PAJURENDA_OWNERS && asking.owners != NULL)
+		check->refused = &check->releasers[index].list->file;
 	return refuse_release(number, &asking);
 }
 
@@ -161,58 +88,73 @@ static enum status move_reference(struct check *check, uint64_t base)
 	return move_alone(&check->reference, base, check->moved) ? FINE : fail_answer();
 }
 
-/* audit: the vendor's image moved; one of edition 1 stays where it is. */
+/* Something is shown of what the file should be: bytes, names with their values, a page or a document. */
+static bool shows_reference(const struct check *check)
+{
+	return check->verify ||
+	       (check->options->given & (BYTES | JSON | REPORT | REPORTS | TEXT | NAMES)) != 0;
+}
+
+/* audit: the vendor's image moved, where it is shown; one of edition 1 stays where it is. */
 static enum status judge_audit(struct check *check)
 {
 	if (audit_against(check, &check->vendor.bytes, &check->found) != FINE)
 		return FAILED;
-	if (is_older(check->reading))
+	find_agreed(check, &check->found);
+	if (is_older(check->reading) || !shows_reference(check))
 		return FINE;
 	return move_reference(check, pajurenda_field(check->found.answer, PAJURENDA_AUDIT_BASE));
 }
 
 /* One sheet onto the reference: by the list that was named, or by the one that gives owner 1 all. */
-static uint32_t release_sheet(struct check *check, const struct named *sheet)
+static uint32_t release_sheet(struct check *check, size_t sheet)
 {
 	uint8_t answer[PAJURENDA_RELEASE_BYTES] = { 0 };
 	const struct asking asking = ask_for(check, sheet);
 	if (asking.owners != NULL)
 		return release_by(&check->reference, &asking, answer);
-	return release_by_one(&check->reference, &sheet->bytes, asking.base, answer);
+	return release_by_one(&check->reference, &asking.sheet->bytes, asking.base, answer);
 }
 
-/* The sheets onto the reference, one after the other, at the vendor's own base. */
+/* The sheets onto the reference, one after the other; of a record each step's result is the recorded one. */
 static enum status release_sheets(struct check *check)
 {
 	for (size_t i = 0; i < check->sheet_count; i++) {
-		const uint32_t number = release_sheet(check, &check->sheets[i]);
+		const uint32_t number = release_sheet(check, i);
 		if (number != PAJURENDA_ACCEPTED)
 			return refuse_check(check, number, &check->sheets[i]);
+		if (check->record.name != NULL && !hold_step(check, i))
+			return FAILED;
 	}
 	return FINE;
 }
 
-/* The release at the shipped base, which the audit against the vendor's image names. */
-static enum status release_whole(struct check *check, struct findings *from_vendor)
+/* How far the shipped file is moved from the vendor's image, where a record's steps have moved the reference before. */
+static enum status find_move(struct check *check, uint64_t base)
 {
-	if (release_sheets(check) != FINE ||
-	    audit_against(check, &check->vendor.bytes, from_vendor) != FINE)
-		return FAILED;
-	const uint64_t base = pajurenda_field(from_vendor->answer, PAJURENDA_AUDIT_BASE);
-	if (move_reference(check, base) != FINE)
-		return FAILED;
-	return audit_against(check, &check->reference, &check->found);
+	struct bytes copy;
+	if (check->record.name == NULL)
+		return FINE;
+	if (!copy_bytes(&check->vendor.bytes, &copy))
+		return fail_no_memory(check->vendor.name);
+	const bool moved = move_alone(&copy, base, check->moved);
+	free(copy.at);
+	return moved ? FINE : fail_answer();
 }
 
-/* verify: the vendor's image released with the sheets. */
+/* verify: the vendor's image released with the sheets, at the shipped base, which the audit against the vendor's image
+   names. */
 static enum status judge_verify(struct check *check)
 {
-	struct findings from_vendor = { .places = NULL };
-	enum status status = release_whole(check, &from_vendor);
-	if (status == FINE)
-		status = settle(check, &from_vendor);
-	free(from_vendor.places);
-	return status;
+	if (release_sheets(check) != FINE ||
+	    audit_against(check, &check->vendor.bytes, &check->from_vendor) != FINE)
+		return FAILED;
+	find_agreed(check, &check->from_vendor);
+	const uint64_t base = pajurenda_field(check->from_vendor.answer, PAJURENDA_AUDIT_BASE);
+	if (move_reference(check, base) != FINE || find_move(check, base) != FINE ||
+	    audit_against(check, &check->reference, &check->found) != FINE)
+		return FAILED;
+	return settle(check);
 }
 
 /* The names and what must be, of a vendor's image that reads; false after a message. */
@@ -251,7 +193,7 @@ enum status judge(struct check *check)
 		return refuse_check(check, own, &check->vendor);
 	if (find_inside(check) != FINE)
 		return FAILED;
-	if (!copy_bytes(vendor, &check->reference))
+	if (shows_reference(check) && !copy_bytes(vendor, &check->reference))
 		return fail_no_memory(check->vendor.name);
 	if (!load_beside(check) ||
 	    (check->verify ? judge_verify(check) : judge_audit(check)) != FINE)
@@ -273,8 +215,14 @@ bool is_good(const struct check *check)
 {
 	if (check->number != PAJURENDA_ACCEPTED)
 		return false;
-	return check->verify ? differences(&check->found) == 0
+	return check->verify ? differences(&check->found) == 0 && is_at_base(check)
 			     : count_of(check, PAJURENDA_AUDIT_EXPLAINED) == 1;
+}
+
+/* The file is at the base that it must be at, where one is demanded. */
+bool is_at_base(const struct check *check)
+{
+	return !check->has_base || count_of(check, PAJURENDA_AUDIT_BASE) == check->base;
 }
 
 /* Good, and everything is there that must be. */
@@ -283,21 +231,43 @@ bool is_fine(const struct check *check)
 	return is_good(check) && is_held(&check->must);
 }
 
-/* Explained alone: whether the settings are the wanted ones nobody has asked. */
-bool is_unchecked(const struct check *check)
+/* Some sheet was taken whoever released it. */
+static bool is_unowned(const struct check *check)
 {
-	return !check->verify && is_good(check) && check->must.file.name == NULL;
+	for (size_t i = 0; i < check->sheet_count; i++)
+		if (check->releasers[i].list == NULL)
+			return true;
+	return false;
 }
 
-const char not_checked[] = "whether the settings are the wanted ones; verify VENDOR SHEET.. SHIPPED says it by "
-			   "the sheets, --must FILE by a text";
-
-/* What such a check leaves open; NULL where it leaves nothing. */
-const char *left_open(const struct check *check)
+/* What nobody has asked of a check that is good, and how to ask it; NULL where there is nothing. */
+const char *unchecked_of(const struct check *check)
 {
-	if (!is_unchecked(check))
+	const bool must = check->must.file.name != NULL;
+	if (!is_good(check))
 		return NULL;
-	return is_older(check->reading) ? older_not_checked : not_checked;
+	if (is_older(check->reading))
+		return older_not_checked;
+	if (!check->verify)
+		return must ? NULL : "whether the settings are the wanted ones; verify VENDOR SHEET.. SHIPPED says it "
+				     "by the sheets, --must FILE by a text";
+	const bool based = check->has_base || (must && !check->must.any_base);
+	if (is_unowned(check))
+		return based ? "whose the settings are; --owners LIST and --owner N before each sheet say it, or a "
+			       "release's record"
+			     : "whose the settings are, and the base; --owners LIST, --owner N before each sheet and "
+			       "--base BASE say it, or a release's record";
+	return based ? NULL : "the base; --base BASE demands one, as a release's record does";
+}
+
+/* The same in the verdict's words; an audit that explains says nothing more. */
+const char *open_of(const struct check *check)
+{
+	const char *open = unchecked_of(check);
+	if (open == NULL || !check->verify)
+		return NULL;
+	return !is_unowned(check) ? "base not checked"
+	       : strstr(open, "base") == NULL ? "owners not checked" : "owners and base not checked";
 }
 
 /* The status of a check that was judged. */

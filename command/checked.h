@@ -10,6 +10,7 @@
 #include "must.h"
 #include "naming.h"
 #include "owners.h"
+#include "record.h"
 #include "refusals.h"
 
 /* What the sheets make of one byte of the region; by the audits against the release and the vendor. */
@@ -20,14 +21,44 @@ struct settled {
 	bool changed;   /* the file has another byte than the vendor's image */
 };
 
+/* An owner list: its file, and as the library takes it. */
+struct owner_list {
+	struct named file;
+	struct owners owners;
+};
+
+/* Who released a sheet, and by which list; no list where whose the settings are has no say. */
+struct releaser {
+	const struct owner_list *list;
+	uint64_t owner;
+};
+
+/* The base that most of the file's words agree on, where its base word isn't it: how many of how many. */
+struct agreed {
+	bool found;
+	uint32_t base;
+	uint64_t agreeing, words;
+};
+
+/* How many notes on its files a check has room for. */
+#define MOST_NOTES ((size_t)4)
+
 struct check {
 	bool verify;
 	struct named vendor, shipped;
 	struct named *sheets;
+	struct releaser *releasers; /* of each of them */
 	size_t sheet_count;
-	struct named list;    /* the owner list's file; no name where the owners have no say */
-	struct owners owners; /* that list, and who releases by it */
-	uint64_t owner;
+	struct owner_list *lists;
+	size_t list_count;
+	struct record record; /* no name where sheets, or none, are named in its place */
+	char **paths;         /* where its files were found */
+	size_t path_count;
+	char *vouched;        /* by whose word the vendor's image is the maker's; NULL where by nobody's */
+	char *notes[MOST_NOTES]; /* what is to be said of the files */
+	size_t note_count;
+	bool has_base;        /* the file must be at this base, by --base or the record */
+	uint64_t base;
 	const struct options *options;
 	struct naming naming; /* the maker's names, where they are asked for */
 	struct must must;     /* what the shipped file must have, where that is asked for */
@@ -39,6 +70,8 @@ struct check {
 	uint8_t moved[PAJURENDA_RELEASE_BYTES]; /* the answer of the move to the shipped base */
 	struct bytes reference;                 /* what the file should be */
 	struct findings found;                  /* every difference from the reference */
+	struct findings from_vendor;            /* of a verify: every one from the vendor's image moved */
+	struct agreed agreed;
 	struct settled *settled;                /* by offset in the region; NULL in an audit */
 };
 
@@ -46,18 +79,22 @@ bool load_check(struct check *check, bool verify, char **word, const struct opti
 enum status judge(struct check *check);
 bool is_good(const struct check *check);
 bool is_fine(const struct check *check);
-bool is_unchecked(const struct check *check);
+bool is_at_base(const struct check *check);
+const char *unchecked_of(const struct check *check);
+const char *open_of(const struct check *check);
+const char *other_of(const struct check *check);
 enum status status_of(const struct check *check);
 uint64_t count_of(const struct check *check, size_t field);
 const char *verdict_of(const struct check *check);
 const char *reference_name(const struct check *check);
 const char *required_of(const struct check *check);
-const char *left_open(const struct check *check);
-extern const char not_checked[]; /* and how to check it */
 void end_check(struct check *check);
 
 /* The file's own parts, for judge. */
 enum status refuse_check(struct check *check, uint32_t number, const struct named *file);
-enum status settle(struct check *check, const struct findings *from_vendor);
+enum status settle(struct check *check);
+void find_agreed(struct check *check, const struct findings *findings);
+void put_agreed(FILE *to, const struct check *check);
+bool hold_step(struct check *check, size_t index);
 
 #endif

@@ -10,8 +10,10 @@
 #include "files.h"
 #include "forms.h"
 #include "messages.h"
+#include "moved.h"
 #include "page.h"
 #include "ranges.h"
+#include "vouched.h"
 
 /* ---- the files to write ---- */
 
@@ -29,8 +31,11 @@ bool is_apart(const struct check *check, const char *out)
 	for (size_t i = 0; i < check->sheet_count; i++)
 		if (is_same_file(check->sheets[i].name, out))
 			input = "a SHEET";
-	if (check->list.name != NULL && is_same_file(check->list.name, out))
-		input = "LIST";
+	for (size_t i = 0; i < check->list_count; i++)
+		if (is_same_file(check->lists[i].file.name, out))
+			input = "LIST";
+	if (check->record.name != NULL && is_same_file(check->record.name, out))
+		input = "RECORD";
 	if (check->options->names != NULL && is_same_file(check->options->names, out))
 		input = "the file of names";
 	if (check->options->must != NULL && is_same_file(check->options->must, out))
@@ -54,7 +59,7 @@ static bool are_apart(const struct check *check, const struct options *options)
 		fail_usage(command_of(check), "--report and --text name one file", "", "");
 		return false;
 	}
-	return is_apart(check, report) && is_apart(check, text);
+	return is_apart(check, report) && is_apart(check, text) && is_free(report) && is_free(text);
 }
 
 /* Every range with all its bytes, a line each. */
@@ -67,7 +72,7 @@ static void write_ranges(FILE *to, const struct check *check)
 		put_range(to, &ranges, &range, UINT64_MAX);
 }
 
-/* The whole list as a text in memory of its own; false after a message. */
+/* The whole list, and every word that the move changes, as a text in memory of its own; false after a message. */
 static bool make_text(const struct check *check, struct named *text)
 {
 	char *at = NULL;
@@ -78,6 +83,7 @@ static bool make_text(const struct check *check, struct named *text)
 		return false;
 	}
 	write_ranges(to, check);
+	put_moved(to, check);
 	const bool whole = ferror(to) == 0;
 	const bool closed = fclose(to) == 0;
 	text->bytes = (struct bytes){ .at = (uint8_t *)at, .length = length };
@@ -86,14 +92,18 @@ static bool make_text(const struct check *check, struct named *text)
 	return whole && closed;
 }
 
-/* The page, after the whole list where that was asked for; of a refused check the page alone. */
+/* The page and the whole list, where they are asked for, both or none; of a refused check the page alone. */
 static bool save_outs(const struct check *check, const struct options *options)
 {
-	struct named text = { .name = options->text };
 	const bool list = options->text != NULL && check->number == PAJURENDA_ACCEPTED;
-	bool saved = !list || (make_text(check, &text) && save(text.name, &text.bytes));
+	struct named text = { .name = list ? options->text : NULL };
+	struct output outputs[] = { { .name = text.name }, { .name = options->report } };
+	bool saved = !list || make_text(check, &text);
+	outputs[0].bytes = text.bytes;
 	if (saved && options->report != NULL)
-		saved = save_page(check, options->report, list ? &text : NULL);
+		saved = make_page(check, list ? &text : NULL, &outputs[1]);
+	saved = saved && save_together(outputs, 2);
+	free(outputs[1].bytes.at);
 	free(text.bytes.at);
 	return saved;
 }
@@ -106,12 +116,16 @@ static enum status tell_check(struct check *check, const struct options *options
 	const enum status judged = judge(check);
 	if (judged != FINE && check->number == PAJURENDA_ACCEPTED)
 		return FAILED;
+	note_files(check);
+	say_notes(check);
 	if (!save_outs(check, options))
 		return FAILED;
 	if ((options->given & JSON) != 0)
 		return write_check(check);
 	if (judged != FINE)
 		return FAILED;
+	if ((options->given & QUIET) != 0)
+		return status_of(check);
 	return check->verify ? show_verify(check) : show_audit(check, options->given);
 }
 
@@ -120,7 +134,7 @@ enum status run_one(bool verify, char **word, const struct options *options)
 {
 	struct check check;
 	enum status status = FAILED;
-	keep_refusals((options->given & JSON) != 0);
+	keep_refusals((options->given & (JSON | QUIET)) != 0);
 	if (load_check(&check, verify, word, options) && are_apart(&check, options))
 		status = tell_check(&check, options);
 	end_check(&check);

@@ -12,7 +12,15 @@ enum status { FINE = 0, UNEXPLAINED = 1, FAILED = 2 };
 enum option {
 	HELP = 1, VERSION = 2, BYTES = 4, RANGES = 8, WORDS = 16, JSON = 32, OWNERS = 64, OWNER = 128,
 	REPORT = 256, TEXT = 512, LIST = 1024, REPORTS = 2048, MODULES = 4096, NAMES = 8192,
-	STRICT = 16384, MUST = 32768, AT_BASE = 65536, AS_HEX = 131072, WITH_IMAGE = 1048576
+	STRICT = 16384, MUST = 32768, AT_BASE = 65536, AS_HEX = 131072, REPLACE = 262144,
+	RECORD = 524288, NO_RECORD = 1048576, AFTER = 2097152, VENDOR_IS = 4194304, QUIET = 8388608,
+	SECONDS = 1 << 24, NOTE = 1 << 25, KNOWN_BY = 1 << 26, WITH_IMAGE = 1 << 27
+};
+
+/* Where an --owner stands: after so many words of the command's own. */
+struct owner_at {
+	const char *value;
+	size_t words;
 };
 
 /* The options of a command line, and the values of those that have one; NULL where it isn't given. */
@@ -23,6 +31,10 @@ struct options {
 	const char *names, *must;
 	const char *base, *hex;
 	const char *image;
+	const char *record, *after, *vendor;
+	struct owner_at *owner_at; /* every --owner in its order; owner is the first */
+	size_t owner_count;
+	const char *seconds, *note, *number;
 };
 
 /* A file's bytes in memory; never at NULL once loaded, even where empty. */
@@ -62,6 +74,9 @@ enum status do_map(char **word, const struct options *options);
 enum status do_place(char **word, const struct options *options);
 enum status do_hex_export(char **word, const struct options *options);
 enum status do_hex_import(char **word, const struct options *options);
+enum status do_history(char **word, const struct options *options);
+enum status do_split(char **word, const struct options *options);
+enum status do_join(char **word, const struct options *options);
 enum status do_station(char **word, const struct options *options);
 
 #endif

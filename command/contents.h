@@ -10,7 +10,7 @@
 /* What a byte of an image can belong to; the first four are the words that a move changes. */
 enum room {
 	BASE_WORD, PATCH_WORD, IMAGE_BASE, RELOCATION_WORD,
-	TABLES, REGION_HEADER, SETTINGS, MODULE_BYTES, ELSEWHERE,
+	TABLES, REGION_HEADER, SETTINGS, MODULE_BYTES, ELSEWHERE, IN_VOLUME, AFTER_VOLUME,
 	FSP_HEADER /* of an edition 1 image, which has no tables that were judged */
 };
 

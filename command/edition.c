@@ -29,12 +29,18 @@ uint32_t read_newer(const struct bytes *image, uint8_t *reading)
 	return pajurenda_setting(image->at, image->length, 0, 0, part, sizeof part);
 }
 
-/* The version that a reading's revision stands for; edition 1 has a major and a minor number of a byte each. */
+/* The version that a revision of edition 1 stands for: a major and a minor number of a byte each. */
+void show_older_version(FILE *to, uint64_t revision)
+{
+	fprintf(to, "%u.%u", (unsigned)(revision >> 8 & 0xFF), (unsigned)(revision & 0xFF));
+}
+
+/* The version that a reading's revision stands for. */
 void show_version_of(FILE *to, const uint8_t *reading)
 {
 	const uint64_t revision = pajurenda_field(reading, PAJURENDA_READ_REVISION);
 	if (is_older(reading))
-		fprintf(to, "%u.%u", (unsigned)(revision >> 8 & 0xFF), (unsigned)(revision & 0xFF));
+		show_older_version(to, revision);
 	else
 		show_image_version(to, revision, pajurenda_field(reading, PAJURENDA_READ_EXTENDED));
 }

@@ -5,6 +5,8 @@
 #include <stdlib.h>
 
 #include "folding.h"
+#include "json.h"
+#include "json_names.h"
 #include "letters.h"
 #include "messages.h"
 #include "pajurenda.h"
@@ -63,6 +65,23 @@ static void put_over_names(const struct folding *folding, uint64_t offset, uint6
 	}
 }
 
+/* An object of a document: both sheets, both values whole, and the names. */
+static void write_range(const struct folding *folding, const struct held *held, size_t sheet, uint64_t offset,
+			const uint8_t *now, size_t length, const char *before)
+{
+	static uint8_t was[PAJURENDA_MOST_SHEET];
+	for (size_t i = 0; i < length; i++)
+		was[i] = held[i].byte;
+	const struct change change = { .offset = offset, .length = length, .old = was, .new = now };
+	printf("%s\n    {\"offset\": %" PRIu64 ", \"length\": %zu, \"replaces_sheet\": %zu, \"replaces\": ", before, offset,
+	       length, held->sheet);
+	json_bytes(was, length);
+	printf(", \"sheet\": %zu, \"bytes\": ", sheet);
+	json_bytes(now, length);
+	json_names(names_of(&folding->naming), &change, "replaces", "bytes");
+	putchar('}');
+}
+
 /* 0x0028: sheet 1 02 00 -> sheet 3 01 00, and the names. */
 static void show_range(const struct folding *folding, const struct held *held, size_t sheet, uint64_t offset,
 		       const uint8_t *now, size_t length)
@@ -89,6 +108,7 @@ struct walk {
 	struct held *held;
 	uint64_t over;
 	bool show;
+	size_t shown; /* how many ranges */
 };
 
 /* One entry: each range of it that an earlier sheet set, and then it is what was set. */
@@ -103,7 +123,10 @@ static void follow_piece(const struct folding *folding, struct walk *walk, size_
 		if (held[i].sheet == 0)
 			continue;
 		walk->over += end - i;
-		if (walk->show)
+		if (walk->show && is_json())
+			write_range(folding, held + i, sheet, piece->offset + i, now + i, end - i,
+				    walk->shown++ == 0 ? "" : ",");
+		else if (walk->show)
 			show_range(folding, held + i, sheet, piece->offset + i, now + i, end - i);
 	}
 	for (size_t i = 0; i < piece->length; i++)
@@ -127,6 +150,18 @@ static bool follow(const struct folding *folding, struct walk *walk)
 	return true;
 }
 
+/* The count, and each range, as lines or as members. */
+static void show_all(const struct folding *folding, uint64_t over, struct walk *show)
+{
+	if (!is_json())
+		printf("overwritten %" PRIu64 "\n", over);
+	else
+		printf(",\n  \"overwritten\": %" PRIu64 ",\n  \"over\": [", over);
+	(void)follow(folding, show);
+	if (is_json())
+		printf("%s]", show->shown == 0 ? "" : "\n  ");
+}
+
 /* How many bytes were set over, and each range of them. */
 enum status show_over(const struct folding *folding)
 {
@@ -137,10 +172,8 @@ enum status show_over(const struct folding *folding)
 		status = fail_no_memory("sheet fold");
 	else if (!follow(folding, &count))
 		status = fail_answer();
-	else {
-		printf("overwritten %" PRIu64 "\n", count.over);
-		(void)follow(folding, &show);
-	}
+	else
+		show_all(folding, count.over, &show);
 	free(count.held);
 	free(show.held);
 	return status;

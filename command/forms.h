@@ -4,6 +4,8 @@
 
 #include "checked.h"
 
+void show_agreed(const struct check *check);
+void show_found(const struct check *check);
 void show_verdict(const struct check *check);
 enum status show_audit(const struct check *check, unsigned options);
 enum status show_verify(const struct check *check);

@@ -34,10 +34,13 @@ static enum status show_document(const struct named *dump, uint32_t number, cons
 	json_text("file", dump->name);
 	fputs(",\n  \"blocks\": [", stdout);
 	const enum status status = show_blocks(&dump->bytes, count, true);
-	printf("%s],\n", count == 0 ? "" : "\n  ");
-	printf("  \"number\": %" PRIu32 ",\n  \"name\": \"%s\",\n", number, pajurenda_name(number));
-	printf("  \"place\": %" PRIu64 ",\n  \"count\": %" PRIu64 "\n}\n",
-	       pajurenda_field(answer, PAJURENDA_HANDOFFS_PLACE), count);
+	printf("%s]", count == 0 ? "" : "\n  ");
+	json_number("number", number);
+	json_text("name", pajurenda_name(number));
+	json_refusal(number);
+	json_number("place", pajurenda_field(answer, PAJURENDA_HANDOFFS_PLACE));
+	json_number("count", count);
+	end_json();
 	return status;
 }
 
@@ -46,6 +49,8 @@ static enum status show_list(const struct named *dump, bool json)
 {
 	uint8_t answer[PAJURENDA_HANDOFFS_BYTES] = { 0 };
 	const uint32_t number = walk_dump(&dump->bytes, answer);
+	if (number != PAJURENDA_ACCEPTED)
+		(void)refuse_handoff(number, pajurenda_field(answer, PAJURENDA_HANDOFFS_PLACE), dump);
 	const enum status status =
 		json ? show_document(dump, number, answer)
 		     : show_blocks(&dump->bytes, pajurenda_field(answer, PAJURENDA_HANDOFFS_COUNT), false);
@@ -53,7 +58,7 @@ static enum status show_list(const struct named *dump, bool json)
 		return status;
 	if (!json)
 		printf("refused %" PRIu32 "\n", number);
-	return refuse_handoff(number, pajurenda_field(answer, PAJURENDA_HANDOFFS_PLACE), dump);
+	return FAILED;
 }
 
 /* handoff [--json] DUMP */

@@ -1,6 +1,7 @@
 /* The subcommands and what the command says of itself. */
 #include "help.h"
 
+#include <inttypes.h>
 #include <stdbool.h>
 #include <stdio.h>
 #include <string.h>
@@ -13,6 +14,11 @@
 #define PAJURENDA_KIT "unknown kit"
 #endif
 
+/* The SHA-256 of the archive that the command is built over, given there too. */
+#ifndef PAJURENDA_ARCHIVE
+#define PAJURENDA_ARCHIVE "unknown archive"
+#endif
+
 /* The room for a refusal's sentence in a line. */
 #define LINE ((size_t)70)
 
@@ -20,54 +26,73 @@ static const struct command commands[] = {
 	{ "read", { "IMAGE" }, MODULES | WORDS | JSON, do_read,
 	  "[--modules] [--words] [--json] IMAGE", NULL,
 	  "shows what an image's header says, its modules and the words of a move", read_help },
-	{ "release", { "IMAGE", "SHEET", "BASE", "OUT" }, OWNERS | OWNER | AS_HEX, do_release,
-	  "--owners LIST --owner N [--hex FILE] IMAGE SHEET BASE OUT", NULL,
+	{ "release", { "IMAGE", "SHEET", "BASE", "OUT" },
+	  OWNERS | OWNER | AS_HEX | REPLACE | RECORD | NO_RECORD | AFTER | VENDOR_IS | NAMES | STRICT | JSON, do_release,
+	  "--owners LIST --owner N [--after RECORD] [--record FILE | --no-record]\n"
+	  "                         [--vendor-sha256 HEX] [--names FILE] [--hex FILE] [--json] [--replace]\n"
+	  "                         IMAGE SHEET BASE OUT", NULL,
 	  "writes the image with a sheet's settings, moved to a base", release_help },
-	{ "sheet empty", { "IMAGE", "OUT" }, 0, do_sheet_empty, "IMAGE OUT", NULL,
+	{ "sheet empty", { "IMAGE", "OUT" }, REPLACE | JSON, do_sheet_empty, "[--json] [--replace] IMAGE OUT", NULL,
 	  "writes the sheet that sets nothing", sheet_help },
-	{ "sheet start", { "IMAGE", "TEXT" }, NAMES | STRICT, do_sheet_start, "[--names FILE] IMAGE TEXT",
+	{ "sheet start", { "IMAGE", "TEXT" }, NAMES | STRICT | JSON, do_sheet_start,
+	  "[--json] [--names FILE] IMAGE TEXT",
 	  NULL, "begins a text for an image, with names every setting", sheet_help },
-	{ "sheet make", { "IMAGE", "TEXT", "OUT" }, NAMES | STRICT, do_sheet_make,
-	  "[--names FILE] IMAGE TEXT OUT", NULL, "writes the sheet that a text describes", sheet_help },
-	{ "sheet show", { "SHEET", "[IMAGE]" }, JSON | NAMES | STRICT, do_sheet_show,
+	{ "sheet make", { "IMAGE", "TEXT", "OUT" }, NAMES | STRICT | REPLACE | JSON, do_sheet_make,
+	  "[--json] [--names FILE] [--replace] IMAGE TEXT OUT", NULL, "writes the sheet that a text describes",
+	  sheet_help },
+	{ "sheet show", { "SHEET", "[IMAGE]" }, NAMES | STRICT | JSON, do_sheet_show,
 	  "[--json] [--names FILE] SHEET [IMAGE]", NULL, "shows a sheet as such a text", sheet_help },
-	{ "sheet fold", { "SHEET..", "OUT" }, NAMES | STRICT | WITH_IMAGE, do_sheet_fold,
-	  "[--names FILE --image IMAGE] SHEET.. OUT", NULL,
+	{ "sheet fold", { "SHEET..", "OUT" }, NAMES | STRICT | WITH_IMAGE | REPLACE | JSON, do_sheet_fold,
+	  "[--json] [--names FILE --image IMAGE] [--replace] SHEET.. OUT", NULL,
 	  "writes one sheet that sets what old ones set together", sheet_help },
-	{ "must show", { "FILE", "IMAGE" }, NAMES | STRICT, do_must_show, "[--names FILE] FILE IMAGE", NULL,
+	{ "must show", { "FILE", "IMAGE" }, NAMES | STRICT | JSON, do_must_show,
+	  "[--json] [--names FILE] FILE IMAGE", NULL,
 	  "explains what a shipped file must have, for --must", must_help },
-	{ "owners all", { "IMAGE", "OUT" }, 0, do_owners_all, "IMAGE OUT", NULL,
+	{ "owners all", { "IMAGE", "OUT" }, REPLACE | JSON, do_owners_all, "[--json] [--replace] IMAGE OUT", NULL,
 	  "writes the list that gives every setting to owner 1", owners_help },
-	{ "owners show", { "LIST", "IMAGE" }, NAMES | STRICT, do_owners_show, "[--names FILE] LIST IMAGE", NULL,
+	{ "owners show", { "LIST", "IMAGE" }, NAMES | STRICT | JSON, do_owners_show,
+	  "[--json] [--names FILE] LIST IMAGE", NULL,
 	  "shows an owner list beside an image's region", owners_help },
-	{ "setting", { "IMAGE", "OFFSET", "[LENGTH]" }, NAMES | STRICT, do_setting,
-	  "[--names FILE] IMAGE OFFSET LENGTH", "--names FILE IMAGE NAME",
+	{ "setting", { "IMAGE", "OFFSET", "[LENGTH]" }, NAMES | STRICT | JSON, do_setting,
+	  "[--json] [--names FILE] IMAGE OFFSET LENGTH", "[--json] --names FILE IMAGE NAME",
 	  "shows one setting", setting_help },
 	{ "audit", { "VENDOR", "SHIPPED" },
-	  BYTES | RANGES | JSON | REPORT | TEXT | LIST | REPORTS | NAMES | STRICT | MUST, do_audit,
-	  "[--bytes | --ranges | --json] [--report FILE] [--text FILE]\n"
-	  "                       [--names FILE] [--must FILE] VENDOR SHIPPED",
-	  "[--must FILE] --list FILE [--reports FOLDER]",
+	  BYTES | RANGES | JSON | REPORT | TEXT | LIST | REPORTS | NAMES | STRICT | MUST | REPLACE |
+	  VENDOR_IS | QUIET | NOTE | KNOWN_BY, do_audit,
+	  "[--bytes] [--ranges] | [--json] | [-q] [--report FILE] [--text FILE]\n"
+	  "                       [--number TEXT] [--note TEXT] [--names FILE] [--must FILE]\n"
+	  "                       [--vendor-sha256 HEX] [--replace] VENDOR SHIPPED",
+	  "[--must FILE] [--note TEXT] [--json] --list FILE [--reports FOLDER] [--replace]",
 	  "lists every difference of a shipped file, and says whether all are settings",
 	  audit_help },
 	{ "verify", { "VENDOR", "SHEET..", "SHIPPED" },
-	  JSON | REPORT | TEXT | LIST | REPORTS | OWNERS | OWNER | NAMES | STRICT | MUST, do_verify,
-	  "[--owners LIST --owner N] [--json] [--report FILE] [--text FILE]\n"
-	  "                        [--names FILE] [--must FILE] VENDOR SHEET.. SHIPPED",
-	  "[--owners LIST --owner N] [--must FILE] --list FILE [--reports FOLDER]",
-	  "says whether a shipped file is what releasing with these sheets makes", verify_help },
-	{ "hex export", { "IMAGE", "OUT" }, AT_BASE | JSON, do_hex_export,
-	  "[--base BASE] [--json] IMAGE OUT", NULL,
+	  JSON | REPORT | TEXT | LIST | REPORTS | OWNERS | OWNER | NAMES | STRICT | MUST | REPLACE |
+	  AT_BASE | VENDOR_IS | QUIET | NOTE | KNOWN_BY, do_verify,
+	  "[--json] [--report FILE] [--text FILE] [--number TEXT] [--note TEXT]\n"
+	  "                        [--names FILE] [--must FILE] [--replace] RECORD SHIPPED\n"
+	  "       pajurenda verify [--owners LIST] [--base BASE] [..] VENDOR [--owner N] SHEET.. SHIPPED",
+	  "[--owners LIST --owner N] [--base BASE] [--must FILE] [--note TEXT] [--json] --list FILE\n"
+	  "                        [--reports FOLDER] [--replace]",
+	  "says whether a shipped file is what a release, by its record or sheets, makes", verify_help },
+	{ "hex export", { "IMAGE", "OUT" }, AT_BASE | JSON | REPLACE, do_hex_export,
+	  "[--base BASE] [--json] [--replace] IMAGE OUT", NULL,
 	  "writes an image as Intel HEX, for a flash programmer", hex_help },
-	{ "hex import", { "TEXT", "OUT" }, JSON, do_hex_import, "[--json] TEXT OUT", NULL,
+	{ "hex import", { "TEXT", "OUT" }, JSON | REPLACE, do_hex_import,
+	  "[--json] [--replace] TEXT OUT", NULL,
 	  "writes the image that such a text is of", hex_help },
+	{ "history", { "FOLDER" }, REPORT | REPLACE, do_history, "[--report FILE] [--replace] FOLDER", NULL,
+	  "shows what each board of a folder's records has, and where they differ", history_help },
+	{ "split", { "FILE", "FOLDER" }, REPLACE, do_split, "[--replace] FILE FOLDER", NULL,
+	  "writes each component of a maker's file as a file of its own", split_help },
+	{ "join", { "FILE", "COMPONENT..", "OUT" }, REPLACE, do_join, "[--replace] FILE COMPONENT.. OUT", NULL,
+	  "puts released components back in their places in a copy of it", split_help },
 	{ "handoff", { "DUMP" }, JSON, do_handoff, "[--json] DUMP", NULL,
 	  "shows the hand-off blocks that firmware left", handoff_help },
 	{ "map", { "DUMP" }, JSON, do_map, "[--json] DUMP", NULL,
 	  "shows the free memory by these blocks, and what was taken away", map_help },
-	{ "place", { "DUMP", "IMAGE|SIZE" }, 0, do_place, "DUMP IMAGE|SIZE", NULL,
+	{ "place", { "DUMP", "IMAGE|SIZE" }, JSON, do_place, "[--json] DUMP IMAGE|SIZE", NULL,
 	  "shows the lowest base with room for an image there", place_help },
-	{ "station", { "LOG" }, 0, do_station, "LOG", NULL,
+	{ "station", { "LOG" }, JSON, do_station, "[--json] LOG", NULL,
 	  "follows a boot log and says which call came out of order", station_help },
 };
 
@@ -215,24 +240,34 @@ enum status show_help(const struct command *command)
 	printf("\n%s", command->help);
 	if (command->run == do_release)
 		fputs(out_help, stdout);
-	if (command->help == sheet_help || command->help == owners_help || command->help == hex_help)
+	if (command->help == sheet_help || command->help == owners_help || command->help == hex_help ||
+	    command->help == split_help)
 		fputs(made_out_help, stdout);
 	if ((command->options & NAMES) != 0 || command->help == sheet_help || command->help == owners_help)
 		fputs(names_help, stdout);
 	if (command->run == do_audit || command->run == do_verify)
 		printf("%s%s", check_help,
 		       command->run == do_audit ? audit_status_help : verify_status_help);
-	else if (command->run != do_station)
+	else if (command->run != do_station && command->run != do_history)
 		fputs(status_help, stdout);
 	return FINE;
 }
 
-/* The project's version, and what proved it. */
+/* The version of the command and of the library in it, what proved that, and the archive by its digest. */
 enum status show_version(void)
 {
+	const uint32_t library = pajurenda_version();
 	puts("pajurenda " PAJURENDA_VERSION);
+	printf("library %" PRIu32 ".%" PRIu32 ".%" PRIu32 "\n", library >> 16, library >> 8 & 255, library & 255);
 	puts("proved with " PAJURENDA_KIT);
+	puts("archive " PAJURENDA_ARCHIVE);
 	return FINE;
+}
+
+/* The archive's SHA-256. */
+const char *archive_digest(void)
+{
+	return PAJURENDA_ARCHIVE;
 }
 
 /* What proved it. */

@@ -17,5 +17,6 @@ const char *find_instead(const char *word);
 enum status show_help(const struct command *command);
 enum status show_version(void);
 const char *kit_name(void);
+const char *archive_digest(void);
 
 #endif

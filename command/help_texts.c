@@ -16,13 +16,12 @@ const char read_help[] =
 	"place and a version major.minor; nothing else of it is judged, so that no entry, region, module\n"
 	"or word is shown, and with --modules or --words it is refused with 28.\n"
 	"\n"
-	"--modules  also lists the modules in file order, a line each: its number, the name of its\n"
-	"           file, the position of its section's header, its kind (PE32, PE32+ or TE), its own\n"
+	"--modules  also lists the modules in file order, a line each: its number, its file's GUID, the\n"
+	"           name that its file goes by where it has one, the position of its section's header, its kind (PE32, PE32+ or TE), its own\n"
 	"           position and length, its image base and how many relocation words it has.\n"
 	"--words    also lists the words that a move changes, a line each: the base word, each patch\n"
 	"           word with its entry's index and value, then for each module its image base and\n"
 	"           its relocation words; with position, width in bytes and what stands there.\n"
-	"--json     one JSON document in place of the lines.\n"
 	"\n"
 	"A module is cut out of IMAGE by its position (place) and length, to be looked at elsewhere:\n"
 	"tail -c +$((PLACE + 1)) IMAGE | head -c LENGTH\n";
@@ -41,8 +40,17 @@ const char release_help[] =
 	"               release with the same LIST. Nothing is released without one: `owners all`\n"
 	"               writes the LIST that gives every setting to owner 1.\n"
 	"--owner N      who releases, 1 or 2: SHEET may set the bytes of N's ranges and no others.\n"
+	"--record FILE  where the release's record goes, OUT.release.json where it isn't said. It has the\n"
+	"               maker's image, SHEET, LIST and OUT with length and SHA-256, who released, the base\n"
+	"               before and after, each entry old -> new, and the time, and is written with OUT:\n"
+	"               both or none. `verify RECORD SHIPPED` plays it again.\n"
+	"--after RECORD  IMAGE is what RECORD made: the new record goes on with it, the list of all steps\n"
+	"               since the maker's image. A released image wants it.\n"
+	"--no-record    writes none.\n"
+	"--vendor-sha256 HEX  refuses another maker's image than the one with this digest (with --after\n"
+	"               that of RECORD). Where IMAGE.sha256 lies beside IMAGE, it is checked too, and said.\n"
 	"--hex FILE     also writes the released image, at BASE, as Intel HEX to FILE (see pajurenda hex\n"
-	"               --help), before OUT: where FILE can't be written OUT is as it was.\n"
+	"               --help), together with OUT: where FILE can't be written OUT is as it was.\n"
 	"\n"
 	"BASE is hex with 0x, as every base is shown (0x00512000): a multiple of 4096, base plus length\n"
 	"at most 2^32. `keep` is the base that IMAGE is at, so that the release only sets. With the\n"
@@ -82,8 +90,6 @@ const char sheet_help[] =
 	"refused. After `was` stands what the image has now: where it has other bytes, the line is refused.\n"
 	"A name whose default isn't what IMAGE has is only set with `was`.\n"
 	"\n"
-	"With --json `sheet show` has one JSON document in place of the text.\n"
-	"\n"
 	"The library judges every sheet: nothing is written unless it takes the sheet for IMAGE, and\n"
 	"of a text it refuses the line is named. make and empty show what the sheet is for, how many\n"
 	"entries it has and its length; make also each entry, old -> new.\n";
@@ -114,7 +120,8 @@ const char names_help[] =
 
 const char made_out_help[] =
 	"\n"
-	"OUT may be none of the inputs. It is written whole or not at all, as by `release`.\n";
+	"OUT may be none of the inputs, and none that is there already is replaced without --replace. It is\n"
+	"written whole or not at all, as by `release`.\n";
 
 const char owners_help[] =
 	"all   writes to OUT the list that gives every setting of IMAGE to owner 1, as a text that a\n"
@@ -149,20 +156,23 @@ const char setting_help[] =
 	"OFFSET and LENGTH are decimal without a leading 0, or hex after 0x.\n";
 
 const char audit_help[] =
-	"Compares SHIPPED with VENDOR moved to SHIPPED's base and shows that base, how many bytes\n"
-	"differ in settings and elsewhere (strays), how many bits in settings, each byte that\n"
-	"differs (S a setting, X a stray, with its position) and the verdict: explained where\n"
-	"there are no strays. Every difference is listed, however many there are. Explained says nothing of\n"
+	"Compares SHIPPED with VENDOR moved to SHIPPED's base and shows that base, how many bytes differ in\n"
+	"settings and elsewhere (strays), how many bits in settings, each byte that differs (S a setting, X a\n"
+	"stray, with its position) and the verdict: explained where there are no strays. On a terminal the\n"
+	"verdict is first. A release's record in the place of VENDOR stands for its maker's image. Every difference is listed, however many there are. Explained says nothing of\n"
 	"whether the settings are the wanted ones: `verify` does, or --must.\n"
 	"\n"
 	"--bytes   each difference also has the maker's byte (VENDOR's, moved) and the byte it is, in hex.\n"
 	"--ranges  neighbouring positions of one kind are one line: first and last position,\n"
 	"          length, and where they lie in VENDOR: `region offset 0xN` (a setting), `patch\n"
-	"          word N`, `base word`, `image base`, `relocation word N`, `tables`, `region\n"
-	"          header`, or `elsewhere`; then ` in module N` and the name of its file where a\n"
-	"          module has them, which of its other bytes is all. `read --modules` on VENDOR\n"
-	"          lists the modules, `read --words` the words.\n"
-	"--json    one JSON document in place of the lines.\n"
+	"          word N`, `base word`, `image base`, `relocation word N`, `tables` and the field of\n"
+	"          the header or the patch entry, `region header`, or `elsewhere`; then ` in module N`,\n"
+	"          its name and its file's GUID where a module has them, which of its other bytes is\n"
+	"          all. `read --modules` on VENDOR lists the modules, `read --words` the words. With\n"
+	"          --bytes also the maker's bytes and the file's (`..` where there are more than 16), and\n"
+	"          the eight bytes of the file on either side.\n"
+	"-q        shows nothing on standard output: the exit status says it.\n"
+	"--json    one JSON document in place of the lines; of a list one of all pairs.\n"
 	"\n"
 	"A VENDOR of edition 1 (header revision 1) isn't moved: it is compared byte for byte, which the\n"
 	"first line says, and every difference is a stray. Settings can't be told apart there, so that with\n"
@@ -170,33 +180,45 @@ const char audit_help[] =
 	"owners refuse it.\n";
 
 const char verify_help[] =
-	"Says whether SHIPPED is, byte for byte, what releasing VENDOR with these sheets, in this\n"
-	"order, to SHIPPED's base makes: verdict `as released` or `not as released`. Then the base,\n"
-	"the move, each sheet with its entries, old -> new, how many bytes differ from that release\n"
-	"in settings and elsewhere (strays), how many bits in settings, and a line for each range\n"
-	"that differs, as `audit --ranges` has it, with the bytes it should have and the bytes it has\n"
-	"(`..` where there are more than 16). Of a setting it also says whose it is: `still as the\n"
-	"maker's` (a sheet sets it, and the file has VENDOR's bytes), `neither the sheet's nor the\n"
-	"maker's`, both with the entry and the sheet, or `no sheet sets it`.\n"
+	"With RECORD, a release's record: says whether SHIPPED is, byte for byte, what its steps make, each\n"
+	"released again from the maker's image by its own owner and list, to its own base. Every file must\n"
+	"be as recorded, by length and SHA-256, and so must what each step makes: the first that isn't is\n"
+	"named, and nothing is compared. Files are looked for where the record has them, from its own\n"
+	"folder, or beside it.\n"
 	"\n"
-	"At least one sheet is named; that of `sheet empty` sets nothing.\n"
+	"With VENDOR and SHEETs: says the same of releasing VENDOR with these sheets, in this order, to\n"
+	"SHIPPED's base. Whose the settings are, and the base, are then checked only where --owners and\n"
+	"--base say them; the verdict has what wasn't. At least one sheet is named; that of `sheet empty`\n"
+	"sets nothing.\n"
 	"\n"
-	"--owners LIST --owner N  as `release` has them: each sheet is released by owner N, and what\n"
-	"          `release` would refuse with 23 or 24 is refused here too. Both or neither are\n"
-	"          given; without them whose the settings are has no say: they are all taken to be\n"
-	"          owner 1's, and owner 1 to release.\n"
-	"--json    one JSON document in place of the lines.\n";
+	"The verdict is `as released` or `not as released`. Then the base, the move, each sheet with its\n"
+	"entries, old -> new, a line `changed` for settings that aren't the maker's any more, with the sheet,\n"
+	"its entry and owner; how many bytes differ from that release in settings and elsewhere (strays), how\n"
+	"many bits in settings, and a line for each range that differs, as `audit --ranges` has it, with the\n"
+	"bytes it should have and the bytes it has (`..` where there are more than 16). Of a setting it also\n"
+	"says whose it is: `still as the maker's` (a sheet sets it, and the file has VENDOR's bytes),\n"
+	"`neither the sheet's nor the maker's`, both with the entry and the sheet, or `no sheet sets it`.\n"
+	"\n"
+	"--owners LIST --owner N  as `release` has them: what `release` would refuse with 23 or 24 is refused\n"
+	"          here too. --owner stands once for all sheets, or before each sheet (and those after it) that\n"
+	"          it is for. Without both all settings are taken to be owner 1's, and owner 1 to release.\n"
+	"--base BASE  the base that SHIPPED must be at: at another it is not as released.\n"
+	"-q        shows nothing on standard output: the exit status says it.\n"
+	"--json    one JSON document in place of the lines; of a list one of all pairs.\n";
 
 const char check_help[] =
 	"--report FILE  also writes a page to file (HTML, one file, no script, nothing to fetch):\n"
-	"          the verdict, the files with their SHA-256 (by the system's sha256sum), what VENDOR\n"
-	"          says of itself, the counts, a map, and the first 1000 ranges with their bytes. Of\n"
-	"          a refused pair the page says that.\n"
+	"          the verdict, what must be, the first 1000 ranges with their bytes, the files with\n"
+	"          their SHA-256, and where to sign; behind it a map, what both files say of themselves,\n"
+	"          the counts, the words that are wrong, and how the page was made. Of a refused pair\n"
+	"          the page says that.\n"
+	"--number TEXT, --note TEXT  the report's number and a remark, on that page.\n"
 	"--must FILE  also says of each line of FILE whether SHIPPED has what it must (see pajurenda must\n"
 	"          show --help): the verdict is then followed by `as required` or `not as required`, and what\n"
 	"          isn't held makes the exit status 1.\n"
-	"--text FILE  also writes every range with all its bytes, a line each.\n"
-	"--list FILE  checks each line of FILE: names as they would follow the command, separated by\n"
+	"--text FILE  also writes every range with all its bytes, a line each, and every word that the\n"
+	"          move changes (W): the maker's, what it should be, what it is, right or wrong.\n"
+	"--list FILE  checks each line of FILE: names (a record's too) as they would follow the command, separated by\n"
 	"          blanks, or by tabs where the line has one; a word that starts with # ends the line.\n"
 	"          Shows a line for each, `line N`, what came of it and the names, and at the end the\n"
 	"          counts. A pair that is refused or can't be read stops no other; the exit status is\n"
@@ -204,7 +226,13 @@ const char check_help[] =
 	"--reports FOLDER  with --list: a page for each line that could be read goes into FOLDER, as\n"
 	"          line-N-SHIPPED.html.\n"
 	"\n"
-	"FILE may be none of the inputs. It is written whole or not at all, before anything is shown.\n";
+	"--vendor-sha256 HEX  refuses another maker's image than the one with this digest. Where VENDOR.sha256,\n"
+	"          as makers ship it, lies beside VENDOR, it is checked too; by whose word VENDOR is the maker's\n"
+	"          image is said, and where there is none the page has it as given as that. The same bytes given\n"
+	"          twice, and a released image given as the maker's, are said on standard error and on the page.\n"
+	"\n"
+	"FILE may be none of the inputs, and none that is there already is replaced without --replace. It is\n"
+	"written whole or not at all, before anything is shown.\n";
 
 const char audit_status_help[] =
 	"\nExit status: 0 explained, 1 unexplained or not as required, 2 refused or failed.\n";
@@ -229,6 +257,29 @@ const char hex_help[] =
 	"             `release` moves, and has --hex.\n"
 	"--json       one JSON document in place of the lines.\n";
 
+const char history_help[] =
+	"Goes through the release records of FOLDER, by name, a board each: whether the image that it made is there\n"
+	"and as recorded, the maker's image, the base, each step with its time, owner, base and sheet, and each setting\n"
+	"that the steps have set, in the end, by the names that the record has. Then for each maker's image its\n"
+	"boards, and where they differ in base or settings; a board that doesn't set a byte has the maker's.\n"
+	"\n"
+	"It shows what the records say; `verify RECORD SHIPPED` plays one again.\n"
+	"\n"
+	"--report FILE  also writes it as a page (HTML, one file, no script, nothing to fetch).\n"
+	"\n"
+	"Exit status: 0 done, 1 an image isn't as recorded, 2 refused or failed, or a record can't be read.\n";
+
+const char split_help[] =
+	"split  writes each component of FILE, a maker's file of several components or a ROM, as a file of its own\n"
+	"       into FOLDER, which must be there: 1-S.fd, 2-M.fd, .. by place and letter. Shows each with its place,\n"
+	"       length, base, identity and version, and what is left over.\n"
+	"join   writes to OUT a copy of FILE with each COMPONENT, as released, in the place of the component that\n"
+	"       has its letter, identity, revision and extended number; refused where there is none, or more than\n"
+	"       one, or where its length is another. What lies elsewhere is as in FILE.\n"
+	"\n"
+	"A component is what the library reads at a place where a volume starts, of the length that its header\n"
+	"says; an image of edition 1 is none. FILE may have 268435456 bytes.\n";
+
 const char handoff_help[] =
 	"Shows the hand-off blocks that firmware left in memory, from the first byte of DUMP up to\n"
 	"the end block: place, type (by the PI specification's name), length, and what a block of\n"
@@ -236,11 +287,6 @@ const char handoff_help[] =
 	"block its name and its data's place and length. Other types, and a later HANDOFF, have\n"
 	"`unknown kind`. Places count from DUMP's first byte. Bytes after the end block don't\n"
 	"count. Of a refused list the blocks before the one at fault are shown, then `refused N`.\n"
-	"\n"
-	"--json  one JSON document: `blocks`, in order, then `number` (0, or the refusal's) and its\n"
-	"        `name`, `place` (of the end block, or the fault) and `count` (of the blocks).\n"
-	"        Addresses, sizes and attributes are text (\"0x0009FC00\"), GUIDs too; `last` of an\n"
-	"        empty resource is null.\n"
 	"\n"
 	"The list must end in the first 67108864 bytes.\n";
 
@@ -266,19 +312,24 @@ const char place_help[] =
 	"\n"
 	"A number is a SIZE in bytes, any other word the file of an IMAGE, which must read and whose length\n"
 	"is taken. A file whose name is a number is given as ./NAME. Where there is no such base, `refused N`\n"
-	"stands in its place, which `release` takes for no base.\n";
+	"stands in its place, which `release` takes for no base.\n"
+	"\n"
+	"--json  one JSON document: `size`, in bytes, and `base`.\n";
 
 const char station_help[] =
 	"Follows the boot log LOG from a reset on: for each call its line, its name and `accepted`, or\n"
 	"`refused`, the number and what was expected in its place. A refused call changes nothing: the\n"
 	"next one is judged as if it had not been made. Then how many calls, resets and refused calls\n"
-	"there are, and what may come next. The first refused call is also told on standard error.\n"
+	"there are, and `boot complete`, or `boot not complete` and what was still expected; where calls\n"
+	"were refused on the way, `boot at its end, but with refused calls`. The first refused call is\n"
+	"also told on standard error.\n"
 	"\n"
 	"LOG has a call a line. By name: TempRamInit, MemoryInit (or FspMemoryInit), TempRamExit,\n"
 	"SiliconInit (or FspSiliconInit); AfterPciEnumeration, ReadyToBoot and EndOfFirmware, alone or\n"
 	"after NotifyPhase, also with EnumInitPhase before them. By number: 1 to 4 in the order above, a\n"
 	"notification as `notify 0x20` (or `5 0x20`). `reset` starts afresh. `#` starts a comment; empty\n"
-	"lines don't count.\n"
+	"lines don't count. A line may begin with a time in brackets, `[    1.204] TempRamInit`, or with a\n"
+	"number and a colon, `12: TempRamInit`: it is shown, and has no say.\n"
 	"\n"
 	"    TempRamInit\n"
 	"    FspMemoryInit\n"
@@ -291,13 +342,15 @@ const char station_help[] =
 	"A name or number that nothing has is refused with 41. A line that is no call at all is an error\n"
 	"that names the line, and ends it.\n"
 	"\n"
-	"Exit status: 0 no call is refused, 2 some call is refused, or failed.\n";
+	"Exit status: 0 boot complete, 1 not complete, an empty log too, 2 a call is refused, or failed.\n";
 
 const char out_help[] =
 	"\n"
-	"OUT may be IMAGE, not SHEET or LIST. It is written whole or not at all: a new file takes its\n"
-	"name, with the old one's mode, when every byte is on the disk. A link is followed; a file that\n"
-	"may not be written stays. OUT stands even where standard output then can't be written.\n";
+	"No file that is there already is replaced, by whatever name or link it is reached, unless --replace\n"
+	"is given; and then none of the inputs but IMAGE, which is said. OUT is written whole or not at all:\n"
+	"a new file takes its name, with the old one's mode, when every byte is on the disk. A link is\n"
+	"followed; a file that may not be written stays. OUT stands even where standard output then can't be\n"
+	"written.\n";
 
 const char status_help[] =
 	"\n"
@@ -309,14 +362,20 @@ const char general_help[] =
 	"alone. A base, an address, an offset of the region, a revision, an extended number, a word and\n"
 	"bytes are shown in hex, all else in decimal.\n"
 	"\n"
+	"--json, of every command, writes one JSON document in place of the lines: docs/json.md of the\n"
+	"project has its members, docs/json.schema.json the schema.\n"
+	"--seconds N, of every command, ends it after N seconds of the processor's time (60 where it isn't\n"
+	"given, 0 never), before anything is written: an image can be made so that a reading takes hours.\n"
+	"\n"
 	"Options may stand before or after the files; `--` ends them. A file named like an option\n"
-	"or `help` is given as ./NAME. `--owners=LIST` is `--owners LIST`. A file longer than 16777216\n"
+	"or `help` is given as ./NAME; `-` is standard input, for one of the files that are read. `--owners=LIST` is `--owners LIST`. A file longer than 16777216\n"
 	"bytes is refused as an image: with 1, as SHIPPED with 19, as SHEET with 15, as LIST with 23\n"
 	"where it is no text; as TEXT or LOG it is an error; a text of Intel HEX may be longer. A file that can't be read is an error, not an\n"
 	"empty image.\n"
 	"\n"
-	"Exit status: 0 done (audit: explained; verify: as released), 1 audit: unexplained, verify:\n"
-	"not as released, both: not as required, 2 refused, wrong usage or an input or output error. A\n"
-	"refusal prints `refused N` (station: in the line of each call) and, on standard error, the file,\n"
-	"the rule and the values that decided; nothing is written to OUT then. The refusals:\n"
+	"Exit status: 0 done (audit: explained; verify: as released; station: boot complete), 1 audit:\n"
+	"unexplained, verify: not as released, both: not as required, station: not complete, 2 refused,\n"
+	"wrong usage or an input or output error. A refusal prints `refused N` (station: in the line of\n"
+	"each call) and, on standard error, the file, the rule and the values that decided; nothing is\n"
+	"written to OUT then. The refusals:\n"
 	"\n";

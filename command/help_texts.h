@@ -16,6 +16,8 @@ extern const char check_help[];
 extern const char audit_status_help[];
 extern const char verify_status_help[];
 extern const char hex_help[];
+extern const char history_help[];
+extern const char split_help[];
 extern const char handoff_help[];
 extern const char map_help[];
 extern const char place_help[];

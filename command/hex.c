@@ -29,6 +29,7 @@ static void write_told(const struct told *told, uint32_t number)
 	json_text("out", told->out);
 	json_number("number", number);
 	json_text("name", pajurenda_name(number));
+	json_refusal(number);
 	if (number == PAJURENDA_ACCEPTED) {
 		json_hex("base", 8, told->base);
 		json_number("length", told->length);
@@ -46,12 +47,12 @@ static enum status tell(const struct told *told)
 	return FINE;
 }
 
-/* Where a document is wanted, that of a refusal. */
-static void tell_refused(const struct told *told, uint32_t number)
+/* A refusal that has been told on standard error; where a document is wanted, its document. */
+static enum status tell_refused(const struct told *told, uint32_t number)
 {
-	keep_refusals(told->json);
 	if (told->json)
 		write_told(told, number);
+	return FAILED;
 }
 
 /* ---- export ---- */
@@ -63,8 +64,8 @@ static enum status refuse_export(uint32_t number, const struct named *image, con
 		return fail_no_memory(image->name);
 	if (number != PAJURENDA_LENGTH && number != PAJURENDA_NEWBASE)
 		return fail_answer();
-	tell_refused(told, number);
-	return number == PAJURENDA_LENGTH ? refuse_image(number, 0, image) : refuse_text_base(image, told->base);
+	(void)(number == PAJURENDA_LENGTH ? refuse_image(number, 0, image) : refuse_text_base(image, told->base));
+	return tell_refused(told, number);
 }
 
 /* The loaded bytes as text, saved. */
@@ -89,8 +90,8 @@ static enum status export_there(const struct named *image, struct told *told)
 	const uint32_t number =
 		pajurenda_read(image->bytes.at, image->bytes.length, reading, sizeof reading);
 	if (number != PAJURENDA_ACCEPTED) {
-		tell_refused(told, number);
-		return refuse_image(number, pajurenda_field(reading, PAJURENDA_READ_INDEX), image);
+		(void)refuse_image(number, pajurenda_field(reading, PAJURENDA_READ_INDEX), image);
+		return tell_refused(told, number);
 	}
 	told->base = pajurenda_field(reading, PAJURENDA_READ_BASE);
 	return save_export(image, told);
@@ -103,11 +104,12 @@ enum status do_hex_export(char **word, const struct options *options)
 	struct base base = { .keep = true };
 	struct told told = { .command = "hex export", .in = word[0], .out = word[1],
 			     .json = (options->given & JSON) != 0 };
+	keep_refusals(told.json);
 	if (options->base != NULL && !take_base("hex export", options->base, &base))
 		return FAILED;
 	if (is_same_file(image.name, told.out))
 		return fail_lost("hex export", "IMAGE");
-	if (!load(image.name, &image.bytes))
+	if (!is_free(told.out) || !load(image.name, &image.bytes))
 		return FAILED;
 	told.base = base.value;
 	const enum status status = base.keep ? export_there(&image, &told) : save_export(&image, &told);
@@ -122,14 +124,14 @@ static enum status refuse_import(uint32_t number, const struct named *text, cons
 {
 	if (number != PAJURENDA_TEXT)
 		return fail_answer();
-	tell_refused(told, number);
 	begin_refusal(number, text->name);
 	say_rule(number);
 	if (text->bytes.length > PAJURENDA_MOST_HEX)
-		fprintf(stderr, "it has more than %d characters", PAJURENDA_MOST_HEX);
+		fprintf(saying(), "it has more than %d characters", PAJURENDA_MOST_HEX);
 	else
-		fprintf(stderr, "it has %zu characters", text->bytes.length);
-	return end_refusal();
+		fprintf(saying(), "it has %zu characters", text->bytes.length);
+	(void)end_refusal();
+	return tell_refused(told, number);
 }
 
 /* The bytes of the loaded text, saved. */
@@ -153,9 +155,10 @@ enum status do_hex_import(char **word, const struct options *options)
 	struct named text = { .name = word[0] };
 	struct told told = { .command = "hex import", .in = word[0], .out = word[1],
 			     .json = (options->given & JSON) != 0 };
+	keep_refusals(told.json);
 	if (is_same_file(text.name, told.out))
 		return fail_lost("hex import", "TEXT");
-	if (!load_until(text.name, &text.bytes, (size_t)PAJURENDA_MOST_HEX + 1, NULL))
+	if (!is_free(told.out) || !load_until(text.name, &text.bytes, (size_t)PAJURENDA_MOST_HEX + 1, NULL))
 		return FAILED;
 	struct bytes image = { .at = malloc(PAJURENDA_MOST_IMAGE) };
 	const enum status status = image.at == NULL ? fail_no_memory(text.name)

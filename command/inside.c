@@ -9,7 +9,10 @@
 
 #include "json.h"
 #include "letters.h"
+#include "messages.h"
+#include "module_names.h"
 #include "show.h"
+#include "signs.h"
 
 /* A module's own bytes follow the four of its section's header. */
 #define SECTION_HEADER 4
@@ -51,8 +54,14 @@ static void show_module(const struct contents *contents, uint64_t number)
 {
 	const struct module *module = &contents->modules[number];
 	const struct word base = word_at(contents, module->base);
+	char name[MODULE_NAME_BYTES];
 	printf("module %" PRIu64 " file ", number);
 	show_guid(stdout, guid_of(contents, number));
+	if (name_module(contents, number, name)) {
+		fputs(" name \"", stdout);
+		put_name(stdout, name);
+		putchar('"');
+	}
 	printf(" section %" PRIu64 " kind %s place %" PRIu64 " length %" PRIu64, module->section,
 	       kind_of(contents, number), module->section + SECTION_HEADER, length_of_module(module));
 	printf(" image base 0x%0*" PRIX64 " relocation words %" PRIu64 "\n", (int)(2 * base.width),
@@ -102,11 +111,23 @@ void write_counts(const struct contents *contents, const uint8_t *reading)
 	json_number("relocation_words", count_relocations(contents, reading));
 }
 
+/* The name that a module goes by; null where its file has none. */
+void json_module_name(const struct contents *contents, uint64_t module)
+{
+	char name[MODULE_NAME_BYTES];
+	if (name_module(contents, module, name))
+		put_json_text(stdout, name);
+	else
+		fputs("null", stdout);
+}
+
 static void write_module(const struct contents *contents, uint64_t number)
 {
 	const struct module *module = &contents->modules[number];
 	const struct word base = word_at(contents, module->base);
-	printf("%s\n    {\"index\": %" PRIu64 ", \"file\": \"", number == 0 ? "" : ",", number);
+	printf("%s\n    {\"index\": %" PRIu64 ", \"name\": ", number == 0 ? "" : ",", number);
+	json_module_name(contents, number);
+	fputs(", \"file\": \"", stdout);
 	show_guid(stdout, guid_of(contents, number));
 	printf("\", \"file_place\": %" PRIu64 ", \"section\": %" PRIu64 ", \"kind\": \"%s\"", module->file,
 	       module->section, kind_of(contents, number));

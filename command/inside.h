@@ -8,6 +8,7 @@ void show_counts(const struct contents *contents, const uint8_t *reading);
 void show_modules(const struct contents *contents);
 void show_words(const struct contents *contents, const uint8_t *reading);
 
+void json_module_name(const struct contents *contents, uint64_t module);
 void write_counts(const struct contents *contents, const uint8_t *reading);
 void write_modules(const struct contents *contents);
 void write_words(const struct contents *contents, const uint8_t *reading);

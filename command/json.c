@@ -4,14 +4,60 @@
 #include <inttypes.h>
 #include <stdio.h>
 
+#include "help.h"
+#include "inputs.h"
 #include "pajurenda.h"
+#include "refusals.h"
 #include "show.h"
 #include "signs.h"
 
-/* The start of each document: which command it is of. */
+/* The form of these documents: another number where a member is gone or means something else. */
+#define FORMAT 1
+
+/* A document is wanted in place of lines, of this command; and it has been begun. */
+static bool wanted, begun;
+static const char *wanted_of;
+
+/* What the command line asks for; a refusal's number then stands in the document alone. */
+void want_json(const char *command, bool json)
+{
+	wanted = json;
+	wanted_of = command;
+	note_inputs(json);
+	keep_refusals(json);
+}
+
+bool is_json(void)
+{
+	return wanted;
+}
+
+/* The start of each document: its form, the tool, the command, and the files that were read. */
 void begin_json(const char *command)
 {
-	printf("{\n  \"command\": \"%s\"", command);
+	begun = true;
+	printf("{\n  \"format\": %d,\n  \"tool\": {\"version\": \"%s\", \"kit\": ", FORMAT, PAJURENDA_VERSION);
+	put_json_text(stdout, kit_name());
+	fputs(", \"archive\": ", stdout);
+	put_json_text(stdout, archive_digest());
+	printf("},\n  \"command\": \"%s\",\n  \"files\": ", command);
+	json_inputs(0, true);
+}
+
+/* The same of the command that was typed. */
+void begin_document(void)
+{
+	begin_json(wanted_of);
+}
+
+/* A refusal that no document has told of gets one of its own. */
+void end_documents(void)
+{
+	if (!wanted || begun || refusal_number() == PAJURENDA_ACCEPTED)
+		return;
+	begin_document();
+	json_answer(refusal_number(), refusal_index());
+	end_json();
 }
 
 void end_json(void)
@@ -34,6 +80,11 @@ void json_number(const char *name, uint64_t value)
 	printf(",\n  \"%s\": %" PRIu64, name, value);
 }
 
+void json_signed(const char *name, int64_t value)
+{
+	printf(",\n  \"%s\": %" PRId64, name, value);
+}
+
 /* What is shown in hex is text, with its 0x. */
 void json_hex(const char *name, unsigned digits, uint64_t value)
 {
@@ -46,6 +97,31 @@ void json_answer(uint32_t number, uint64_t index)
 	json_number("number", number);
 	printf(",\n  \"name\": \"%s\"", pajurenda_name(number));
 	json_number("index", index);
+	json_refusal(number);
+}
+
+/* What a refusal is about: the rule, and the values that decided as they were told; null where accepted. */
+void put_refusal(uint32_t number)
+{
+	if (number == PAJURENDA_ACCEPTED) {
+		fputs("null", stdout);
+		return;
+	}
+	fputs("{\"rule\": ", stdout);
+	put_json_text(stdout, pajurenda_sentence(number));
+	fputs(", \"values\": ", stdout);
+	if (refusal_values() == NULL)
+		fputs("null", stdout);
+	else
+		put_json_text(stdout, refusal_values());
+	putchar('}');
+}
+
+/* The same as a member. */
+void json_refusal(uint32_t number)
+{
+	fputs(",\n  \"refusal\": ", stdout);
+	put_refusal(number);
 }
 
 /* Bytes in hex, in quotes. */
@@ -57,7 +133,7 @@ void json_bytes(const uint8_t *bytes, uint64_t count)
 }
 
 /* What an image is by, or a sheet is for, without the version that this makes. */
-void json_bound(const uint8_t *identity, uint64_t revision, uint64_t extended)
+void json_bound_parts(const uint8_t *identity, uint64_t revision, uint64_t extended)
 {
 	char text[9] = "";
 	for (size_t i = 0; i < 8; i++)
@@ -72,7 +148,7 @@ void json_bound(const uint8_t *identity, uint64_t revision, uint64_t extended)
 /* The same with the version. */
 void json_parts(const uint8_t *identity, uint64_t revision, uint64_t extended)
 {
-	json_bound(identity, revision, extended);
+	json_bound_parts(identity, revision, extended);
 	fputs(",\n  \"version\": \"", stdout);
 	show_image_version(stdout, revision, extended);
 	putchar('"');

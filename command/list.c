@@ -15,25 +15,18 @@
 #include <unistd.h>
 
 #include "checking.h"
+#include "clock.h"
 #include "edition.h"
+#include "files.h"
+#include "inputs.h"
+#include "json.h"
 #include "messages.h"
 #include "page.h"
-#include "text.h"
+#include "vouched.h"
 
 /* The most names in a line, and the room for a page's own name. */
 #define MOST_NAMES 256
 #define MOST_LAST 64
-
-/* A list being gone through, and how many pairs came to each end. */
-struct tour {
-	bool verify;
-	const char *folder;
-	const struct options *options;
-	struct text text;
-	size_t lines; /* of the list, for who waits */
-	uint64_t good, bad, unheld, refused, failed;
-	enum status worst;
-};
 
 /* ---- a line's names ---- */
 
@@ -67,14 +60,14 @@ static int split_line(char *line, char **name)
 /* The line has as many names as a check wants; false after a message. */
 static bool is_enough(const struct tour *tour, int count)
 {
-	if (tour->verify ? count >= 3 && count < MOST_NAMES : count == 2)
+	if (tour->verify ? count >= 2 && count < MOST_NAMES : count == 2)
 		return true;
 	if (count == MOST_NAMES)
 		fail_line(&tour->text, "too many names");
 	else
 		fail_line(&tour->text, tour->verify
-					       ? "three names or more are wanted: VENDOR SHEET.. SHIPPED"
-					       : "two names are wanted: VENDOR SHIPPED");
+					       ? "two names or more are wanted: RECORD SHIPPED, or VENDOR SHEET.. SHIPPED"
+					       : "two names are wanted: VENDOR SHIPPED, or RECORD SHIPPED");
 	return false;
 }
 
@@ -102,9 +95,12 @@ static bool save_in_folder(const struct tour *tour, const struct check *check)
 	if (tour->folder == NULL)
 		return true;
 	char *name = name_page(tour, check->shipped.name);
-	const bool saved = name != NULL && is_apart(check, name) && save_page(check, name, NULL);
+	struct output page = { .name = name };
+	const bool saved = name != NULL && is_apart(check, name) && make_page(check, NULL, &page) &&
+			   save_together(&page, 1);
 	if (name == NULL)
 		fail_no_memory(tour->folder);
+	free(page.bytes.at);
 	free(name);
 	return saved;
 }
@@ -144,7 +140,7 @@ static void show_outcome(const struct check *check)
 		fputs(" edition 1", stdout);
 }
 
-/* The outcome counted; the worst one is the whole tour's. */
+/* The outcome counted; the worst one is the whole tour's. What is left open of edition 1 is told where nothing else is. */
 static void count_outcome(struct tour *tour, const struct check *check, bool failed)
 {
 	const bool refused = check->number != PAJURENDA_ACCEPTED;
@@ -153,6 +149,9 @@ static void count_outcome(struct tour *tour, const struct check *check, bool fai
 	tour->refused += !failed && refused;
 	tour->good += status != FAILED && is_good(check);
 	tour->bad += status != FAILED && !is_good(check);
+	if (status != FAILED && unchecked_of(check) != NULL &&
+	    (tour->unchecked == NULL || tour->unchecked == older_not_checked))
+		tour->unchecked = unchecked_of(check);
 	tour->unheld += status != FAILED && !is_held(&check->must);
 	if (status > tour->worst)
 		tour->worst = status;
@@ -173,15 +172,33 @@ static void show_pair(const struct tour *tour, const struct check *check, char *
 	putchar('\n');
 }
 
+/* A pair told: an object of the document, or a line. */
+static void tell_pair(struct tour *tour, const struct check *check, char **name, bool failed)
+{
+	if (is_json())
+		write_pair(tour, check, name, failed);
+	else
+		show_pair(tour, check, name, failed);
+}
+
 /* One pair, whatever comes of it. */
 static void take_pair(struct tour *tour, char **name)
 {
 	struct check check = { .verify = tour->verify };
+	char what[40];
+	snprintf(what, sizeof what, "%s: line %zu of the list", tour->verify ? "verify" : "audit", tour->text.line);
+	start_clock(what);
+	forget_inputs(tour->inputs);
 	bool failed = !load_check(&check, tour->verify, name, tour->options) ||
 		      (judge(&check) != FINE && check.number == PAJURENDA_ACCEPTED);
+	if (!failed) {
+		note_files(&check);
+		say_notes(&check);
+	}
 	failed = failed || !save_in_folder(tour, &check);
 	count_outcome(tour, &check, failed);
-	show_pair(tour, &check, name, failed);
+	tell_pair(tour, &check, name, failed);
+	fflush(stdout); /* an image that takes too long ends the command, and none of these lines may be lost */
 	end_check(&check);
 }
 
@@ -202,7 +219,7 @@ static void take_line(struct tour *tour, char *line)
 		return;
 	}
 	count_outcome(tour, &none, true);
-	show_pair(tour, &none, name, true);
+	tell_pair(tour, &none, name, true);
 }
 
 /* The counts of all, and the worst status. */
@@ -212,14 +229,18 @@ static enum status end_tour(const struct tour *tour)
 	if (pairs == 0)
 		return fail_usage(tour->verify ? "verify" : "audit", "no pair is named in ",
 				  tour->text.name, "");
+	if (is_json()) {
+		end_pairs(tour, pairs);
+		return tour->worst;
+	}
 	printf("pairs %" PRIu64 " %s %" PRIu64 " %s %" PRIu64, pairs,
 	       tour->verify ? "as released" : "explained", tour->good,
 	       tour->verify ? "not as released" : "unexplained", tour->bad);
 	if (tour->options->must != NULL)
 		printf(" not as required %" PRIu64, tour->unheld);
 	printf(" refused %" PRIu64 " failed %" PRIu64 "\n", tour->refused, tour->failed);
-	if (!tour->verify && tour->good != 0 && tour->options->must == NULL)
-		printf("not checked %s\n", not_checked);
+	if (tour->unchecked != NULL)
+		printf("not checked %s\n", tour->unchecked);
 	return tour->worst;
 }
 
@@ -252,7 +273,10 @@ enum status run_list(bool verify, const struct options *options)
 	struct tour tour = { .verify = verify, .folder = options->reports, .options = options,
 			     .lines = count_lines(&bytes), .text = text_of(options->list, &bytes) };
 	char *line;
+	tour.inputs = count_inputs();
 	keep_refusals(true);
+	if (is_json())
+		begin_pairs(&tour);
 	while (ferror(stdout) == 0 && (line = next_line(&tour.text)) != NULL)
 		take_line(&tour, line);
 	end_progress();

@@ -4,9 +4,11 @@
 #include <errno.h>
 #include <fcntl.h>
 #include <signal.h>
+#include <stdbool.h>
 #include <stdio.h>
 #include <unistd.h>
 
+#include "about.h"
 #include "messages.h"
 #include "options.h"
 
@@ -20,13 +22,20 @@ static void hold_standard_files(void)
 		close(opened);
 }
 
-/* A full pipe or file size limit gives an error to report, not a sudden end; what a program that was
-   started came to is kept for us, whoever started us. */
-static void set_signals(void)
+/* A closed pipe or file size limit gives an error to report, not a sudden end; true where a closed pipe ends
+   whoever doesn't look, as it does unless who started us has set it otherwise. */
+static bool set_signals(void)
 {
-	signal(SIGPIPE, SIG_IGN);
 	signal(SIGXFSZ, SIG_IGN);
 	signal(SIGCHLD, SIG_DFL);
+	return signal(SIGPIPE, SIG_IGN) != SIG_IGN;
+}
+
+/* The end that a closed pipe brings, in silence: whoever reads no further has seen enough. */
+static void end_by_pipe(void)
+{
+	signal(SIGPIPE, SIG_DFL);
+	(void)raise(SIGPIPE);
 }
 
 /* Standard output to its end; 0 or the error's number. After an early error nothing may be left to
@@ -39,14 +48,17 @@ static int close_output(void)
 	return early;
 }
 
-/* The exit status; unwritten standard output is an error. */
+/* The exit status; unwritten standard output is an error, but for a reader that left. */
 int main(int count, char **word)
 {
 	static char line[4096];
 	hold_standard_files();
-	set_signals();
+	keep_line(count, word);
+	const bool ends = set_signals();
 	setvbuf(stderr, line, _IOLBF, sizeof line);
 	const enum status status = run_command(count - 1, word + 1);
 	const int reason = close_output();
+	if (reason == EPIPE && ends)
+		end_by_pipe();
 	return (int)(reason == 0 ? status : fail_at("standard output", reason));
 }

@@ -43,5 +43,5 @@ void begin_line_refusal(uint32_t number, const struct text *text)
 {
 	begin_refusal(number, text->name);
 	say_rule(number);
-	fprintf(stderr, "line %zu: ", text->line);
+	fprintf(saying(), "line %zu: ", text->line);
 }

@@ -118,6 +118,7 @@ static void write_map(const struct named *dump, uint32_t number, const struct sh
 	json_text("file", dump->name);
 	json_number("number", number);
 	json_text("name", pajurenda_name(number));
+	json_refusal(number);
 	if (number == PAJURENDA_ACCEPTED) {
 		fputs(",\n  \"free\": [", stdout);
 		for (size_t i = 0; i < shown->free.count; i++)
@@ -139,7 +140,7 @@ static enum status show_map(struct named *dump, bool json)
 {
 	static struct shown shown;
 	const uint32_t number = make_map(&dump->bytes, &shown.free);
-	keep_refusals(json);
+	const enum status status = number == PAJURENDA_ACCEPTED ? FINE : refuse_memory(number, dump, 0);
 	if (number == PAJURENDA_ACCEPTED &&
 	    !take_away(&dump->bytes, shown.reserved, &shown.count, &shown.memory))
 		return fail_answer();
@@ -147,7 +148,7 @@ static enum status show_map(struct named *dump, bool json)
 		write_map(dump, number, &shown);
 	else if (number == PAJURENDA_ACCEPTED)
 		say_map(&shown);
-	return number == PAJURENDA_ACCEPTED ? FINE : refuse_memory(number, dump, 0);
+	return status;
 }
 
 /* map [--json] DUMP */
@@ -181,35 +182,53 @@ static bool size_of_image(const char *name, uint64_t *size)
 
 /* A number is a size, any other word a file; one that starts like a number and is no file is told
    how to write a size. */
-static bool take_size(const char *word, uint64_t *size)
+static bool take_size(const char *word, uint64_t *size, const char **image)
 {
 	const bool digit = word[0] >= '0' && word[0] <= '9';
 	if (read_number(word, size) != NO_NUMBER || (digit && access(word, F_OK) != 0))
 		return take_number("place", "SIZE", word, size);
+	*image = word;
 	return size_of_image(word, size);
 }
 
+/* What is placed, and where. */
+static void write_place(const struct named *dump, const char *image, uint64_t size, uint64_t base)
+{
+	begin_document();
+	json_text("file", dump->name);
+	json_text("image", image);
+	json_answer(PAJURENDA_ACCEPTED, 0);
+	json_number("size", size);
+	json_hex("base", 8, base);
+	end_json();
+}
+
 /* The base alone, as `release` takes it. */
-static enum status show_place(const struct named *dump, uint64_t size)
+static enum status show_place(const struct named *dump, const char *image, uint64_t size)
 {
 	uint8_t answer[PAJURENDA_LOWEST_BYTES] = { 0 };
 	const uint32_t number =
 		pajurenda_lowest_base(dump->bytes.at, dump->bytes.length, size, answer, sizeof answer);
 	if (number != PAJURENDA_ACCEPTED)
 		return refuse_memory(number, dump, size);
-	printf("0x%08" PRIX64 "\n", pajurenda_field(answer, PAJURENDA_LOWEST_BASE));
+	const uint64_t base = pajurenda_field(answer, PAJURENDA_LOWEST_BASE);
+	if (is_json())
+		write_place(dump, image, size, base);
+	else
+		printf("0x%08" PRIX64 "\n", base);
 	return FINE;
 }
 
-/* place DUMP IMAGE|SIZE */
+/* place [--json] DUMP IMAGE|SIZE */
 enum status do_place(char **word, const struct options *options)
 {
 	struct named dump = { .name = word[0] };
+	const char *image = NULL;
 	uint64_t size = 0;
 	(void)options;
-	if (!take_size(word[1], &size) || !load_dump(&dump))
+	if (!take_size(word[1], &size, &image) || !load_dump(&dump))
 		return FAILED;
-	const enum status status = show_place(&dump, size);
+	const enum status status = show_place(&dump, image, size);
 	free(dump.bytes.at);
 	return status;
 }

@@ -4,13 +4,45 @@
 #include <errno.h>
 #include <string.h>
 
-/* A name as it was given, a control character as `?`: no file's name makes a line of its own. */
+#include "signs.h"
+
+/* How much of a word is shown. */
+#define MOST_SHOWN ((size_t)40)
+
+/* A sign of so many bytes as it was given; one that shows nothing by itself, or bytes that are none, as `?`: no
+   name makes a line of its own, or turns the one it stands in around. */
+static void put_sign(FILE *to, const char *at, size_t length, uint32_t sign)
+{
+	if (sign == NO_SIGN || is_hidden(sign))
+		fputc('?', to);
+	else
+		fwrite(at, 1, length, to);
+}
+
+/* A text's first signs, in at most so many bytes; how many bytes they have. */
+size_t put_signs(FILE *to, const char *text, size_t most)
+{
+	uint32_t sign = 0;
+	size_t length, shown = 0;
+	for (; text[shown] != 0; shown += length) {
+		length = take_sign(text + shown, &sign);
+		if (length > most - shown)
+			break;
+		put_sign(to, text + shown, length, sign);
+	}
+	return shown;
+}
+
+/* A name as it was given. */
 void put_name(FILE *to, const char *name)
 {
-	for (; *name != 0; name++) {
-		const unsigned char c = (unsigned char)*name;
-		fputc(c < 32 || c == 127 ? '?' : c, to);
-	}
+	(void)put_signs(to, name, SIZE_MAX);
+}
+
+/* A word; of a long one its start, and two dots. */
+void put_start(FILE *to, const char *word)
+{
+	fputs(word[put_signs(to, word, MOST_SHOWN)] == 0 ? "" : "..", to);
 }
 
 /* The same in a message. */
@@ -24,7 +56,9 @@ enum status fail_at(const char *name, int reason)
 {
 	fputs("pajurenda: ", stderr);
 	say_name(name);
-	fprintf(stderr, ": %s\n", reason == NOT_REGULAR ? "Not a regular file" : strerror(reason));
+	fprintf(stderr, ": %s\n", reason == NOT_REGULAR    ? "Not a regular file"
+				  : reason == TAKEN_BEFORE ? "standard input is given for two files"
+							   : strerror(reason));
 	return FAILED;
 }
 

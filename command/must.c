@@ -27,10 +27,10 @@
 static enum status refuse_need(const struct making *m)
 {
 	begin_line_refusal(PAJURENDA_FIELD, &m->text);
-	fputs("offset ", stderr);
-	show_offset(stderr, m->written->offset);
-	fprintf(stderr, " length %zu, the region's size z is ", m->written->length);
-	show_offset(stderr, pajurenda_field(m->reading, PAJURENDA_READ_SIZE));
+	fputs("offset ", saying());
+	show_offset(saying(), m->written->offset);
+	fprintf(saying(), " length %zu, the region's size z is ", m->written->length);
+	show_offset(saying(), pajurenda_field(m->reading, PAJURENDA_READ_SIZE));
 	return end_refusal();
 }
 

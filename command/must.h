@@ -31,6 +31,7 @@ bool is_held(const struct must *must);
 uint64_t count_held(const struct must *must);
 void put_need_value(FILE *to, const struct need *need, const uint8_t *bytes);
 void show_must(const struct must *must);
+void json_must(const struct must *must);
 void end_must(struct must *must);
 
 #endif

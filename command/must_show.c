@@ -5,6 +5,9 @@
 
 #include "edition.h"
 #include "files.h"
+#include "json.h"
+#include "json_names.h"
+#include "json_sheet.h"
 #include "messages.h"
 #include "must.h"
 #include "pajurenda.h"
@@ -55,6 +58,20 @@ static void show_text_of(struct must *must, const struct naming *naming, const s
 	printf("# entries %zu, of which the image has %" PRIu64 "\n", must->count, count_held(must));
 }
 
+/* Its document: what is held is held of the image itself. */
+static void write_document(struct must *must, const struct naming *naming, const struct named *image,
+			   const uint8_t *reading)
+{
+	hold_must(must, &image->bytes, must->makers_base);
+	begin_document();
+	json_text("image", image->name);
+	json_answer(PAJURENDA_ACCEPTED, 0);
+	json_bound(reading);
+	json_naming(naming);
+	json_must(must);
+	end_json();
+}
+
 /* Of a loaded image. */
 static enum status explain(const char *file, const struct named *image, const struct options *options)
 {
@@ -67,7 +84,10 @@ static enum status explain(const char *file, const struct named *image, const st
 		return refuse_image(number, pajurenda_field(reading, PAJURENDA_READ_INDEX), image);
 	if (load_naming(options, image, reading, &naming) &&
 	    load_must(file, image, reading, &naming, &must)) {
-		show_text_of(&must, &naming, image, reading);
+		if (is_json())
+			write_document(&must, &naming, image, reading);
+		else
+			show_text_of(&must, &naming, image, reading);
 		status = FINE;
 	}
 	end_must(&must);

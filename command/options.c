@@ -3,9 +3,13 @@
 
 #include <stdbool.h>
 #include <stdio.h>
+#include <stdlib.h>
 #include <string.h>
 
+#include "clock.h"
+#include "files.h"
 #include "help.h"
+#include "json.h"
 #include "messages.h"
 
 /* What is wrong with an option, the option between two texts; no option where nothing is. */
@@ -32,6 +36,7 @@ struct known {
 static const struct known option_names[] = {
 	{ "-h", HELP, NULL },       { "--help", HELP, NULL },     { "--version", VERSION, NULL },
 	{ "--bytes", BYTES, NULL }, { "--ranges", RANGES, NULL }, { "--words", WORDS, NULL },
+	{ "-q", QUIET, NULL },      { "--quiet", QUIET, NULL },
 	{ "--json", JSON, NULL },   { "--modules", MODULES, NULL },
 	{ "--owners", OWNERS, " has no LIST after it" },
 	{ "--owner", OWNER, " has no N after it" },
@@ -45,6 +50,14 @@ static const struct known option_names[] = {
 	{ "--base", AT_BASE, " has no BASE after it" },
 	{ "--hex", AS_HEX, " has no FILE after it" },
 	{ "--image", WITH_IMAGE, " has no IMAGE after it" },
+	{ "--replace", REPLACE, NULL },
+	{ "--record", RECORD, " has no FILE after it" },
+	{ "--vendor-sha256", VENDOR_IS, " has no HEX after it" },
+	{ "--no-record", NO_RECORD, NULL },
+	{ "--after", AFTER, " has no RECORD after it" },
+	{ "--seconds", SECONDS, " has no N after it" },
+	{ "--note", NOTE, " has no TEXT after it" },
+	{ "--number", KNOWN_BY, " has no TEXT after it" },
 };
 
 #define OPTION_NAMES (sizeof option_names / sizeof option_names[0])
@@ -99,6 +112,12 @@ static const char **place_of(struct options *options, unsigned option)
 	case AT_BASE: return &options->base;
 	case AS_HEX: return &options->hex;
 	case WITH_IMAGE: return &options->image;
+	case RECORD: return &options->record;
+	case AFTER: return &options->after;
+	case VENDOR_IS: return &options->vendor;
+	case SECONDS: return &options->seconds;
+	case NOTE: return &options->note;
+	case KNOWN_BY: return &options->number;
 	default: return &options->reports;
 	}
 }
@@ -113,9 +132,13 @@ static int take_value(struct line *line, const struct known *known, char **argum
 		note(line, "", known->name, known->missing);
 		return 0;
 	}
-	if (*place != NULL)
+	if (known->option == OWNER && line->options.owner_at != NULL)
+		line->options.owner_at[line->options.owner_count++] =
+			(struct owner_at){ .value = value, .words = (size_t)line->count };
+	else if (*place != NULL)
 		note(line, "", known->name, " is given twice");
-	*place = value;
+	if (*place == NULL)
+		*place = value;
 	return inside == NULL ? 1 : 0;
 }
 
@@ -138,12 +161,15 @@ static struct line take_apart(int count, char **argument)
 {
 	struct line line = { .word = argument };
 	int i = 0;
+	line.options.owner_at = calloc((size_t)count + 1, sizeof *line.options.owner_at);
 	for (; i < count && strcmp(argument[i], "--") != 0; i++)
 		i += take_argument(&line, argument + i);
 	line.before = line.count;
 	for (i++; i < count; i++)
 		line.word[line.count++] = argument[i];
 	line.word[line.count] = NULL;
+	for (size_t k = 0; k < line.options.owner_count; k++)
+		line.options.owner_at[k].words -= line.options.owner_at[k].words > 0;
 	return line;
 }
 
@@ -174,10 +200,11 @@ static enum status fail_missing(const struct command *command, int given)
 /* Too few words where one of the names stands for several: which is missing can't be said. */
 static enum status fail_few(const struct command *command, int given)
 {
-	char after[80];
-	snprintf(after, sizeof after, " are wanted: %s %s %s, not %d", command->words[0],
-		 command->words[1], command->words[2], given);
-	return fail_usage(command->name, "three words or more", "", after);
+	const bool record = command->run == do_verify;
+	char after[100];
+	snprintf(after, sizeof after, " are wanted: %s%s %s %s, not %d", record ? "RECORD SHIPPED, or " : "",
+		 command->words[0], command->words[1], command->words[2], given);
+	return fail_usage(command->name, record ? "two words or more" : "three words or more", "", after);
 }
 
 /* A subcommand with a word that stands for one or more. */
@@ -187,7 +214,7 @@ static enum status run_with_many(const struct command *command, char **word,
 	int given = 0;
 	while (word[given] != NULL)
 		given++;
-	return given < 3 ? fail_few(command, given) : command->run(word, options);
+	return given < (command->run == do_verify ? 2 : 3) ? fail_few(command, given) : command->run(word, options);
 }
 
 /* The subcommand with its words, of which there must be enough and no more; with a list there are
@@ -264,27 +291,43 @@ static enum status run_named(const struct line *line)
 		return fail_unknown(line->word);
 	if (wants_help(line, count_words(command)))
 		return show_help(command);
-	const unsigned others = line->options.given & ~command->options;
+	const unsigned others = line->options.given & ~(command->options | SECONDS);
 	if (others != 0)
 		return fail_usage(command->name, "takes no option ", name_option(others), "");
 	if ((line->options.given & (NAMES | STRICT)) == STRICT)
 		return fail_usage(command->name, "--names-strict goes with --names FILE", "", "");
-	return run_with(command, line);
+	if (line->options.owner_count > 1 && (command->run != do_verify || (line->options.given & LIST) != 0))
+		return fail_usage(command->name, "", "--owner", " is given twice");
+	if (!set_clock(command->name, &line->options))
+		return FAILED;
+	let_replace((line->options.given & REPLACE) != 0);
+	want_json(command->name, (line->options.given & JSON) != 0);
+	const enum status status = run_with(command, line);
+	end_documents();
+	return status;
+}
+
+/* What a line asks for. */
+static enum status run_line(const struct line *line)
+{
+	const struct command *command = line->count == 0 ? NULL : find_command(line->word);
+	const bool gone = line->count > 0 && find_instead(line->word[0]) != NULL;
+	if (line->fault.option != NULL && !gone)
+		return fail_usage(command == NULL ? NULL : command->name, line->fault.before,
+				  line->fault.option, line->fault.after);
+	if (line->count > 0)
+		return run_named(line);
+	if ((line->options.given & HELP) != 0)
+		return show_help(NULL);
+	return (line->options.given & VERSION) != 0 ? show_version()
+						    : fail_usage(NULL, "no command", "", "");
 }
 
 /* What the whole command line asks for. */
 enum status run_command(int count, char **word)
 {
 	const struct line line = take_apart(count, word);
-	const struct command *command = line.count == 0 ? NULL : find_command(line.word);
-	const bool gone = line.count > 0 && find_instead(line.word[0]) != NULL;
-	if (line.fault.option != NULL && !gone)
-		return fail_usage(command == NULL ? NULL : command->name, line.fault.before,
-				  line.fault.option, line.fault.after);
-	if (line.count > 0)
-		return run_named(&line);
-	if ((line.options.given & HELP) != 0)
-		return show_help(NULL);
-	return (line.options.given & VERSION) != 0 ? show_version()
-						   : fail_usage(NULL, "no command", "", "");
+	const enum status status = run_line(&line);
+	free(line.options.owner_at);
+	return status;
 }

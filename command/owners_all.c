@@ -4,6 +4,7 @@
 #include <stdlib.h>
 
 #include "files.h"
+#include "json.h"
 #include "messages.h"
 #include "trial.h"
 #include "whose.h"
@@ -44,6 +45,14 @@ static enum status save_all(struct trial *trial, const char *out)
 		return fail_answer();
 	if (!save(out, &file))
 		return FAILED;
+	if (is_json()) {
+		begin_document();
+		json_text("out", out);
+		json_answer(PAJURENDA_ACCEPTED, 0);
+		write_shares(&list, trial->reading);
+		end_json();
+		return FINE;
+	}
 	show_region(trial->reading, "");
 	show_shares(&list, trial->reading, "");
 	return FINE;
@@ -58,7 +67,7 @@ enum status do_owners_all(char **word, const struct options *options)
 	(void)options;
 	if (is_same_file(image.name, word[1]))
 		return fail_lost("owners all", "IMAGE");
-	if (!load(image.name, &image.bytes))
+	if (!is_free(word[1]) || !load(image.name, &image.bytes))
 		return FAILED;
 	if (begin_trial(&image, &trial)) {
 		status = save_all(&trial, word[1]);

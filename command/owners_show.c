@@ -4,6 +4,8 @@
 #include <stdlib.h>
 
 #include "files.h"
+#include "json.h"
+#include "json_names.h"
 #include "messages.h"
 #include "naming.h"
 #include "trial.h"
@@ -57,6 +59,19 @@ static void show_owned(const struct bytes *list, const uint8_t *reading, const s
 	show_shares(list, reading, "# ");
 }
 
+/* Its document. */
+static void write_owned(const struct owners *owners, const struct named *image, const uint8_t *reading,
+			const struct naming *naming)
+{
+	begin_document();
+	json_text("list", owners->name);
+	json_text("image", image->name);
+	json_answer(PAJURENDA_ACCEPTED, 0);
+	json_naming(naming);
+	write_shares(&owners->list, reading);
+	end_json();
+}
+
 /* A loaded list judged on a copy of a loaded image, whoever asks, and shown. */
 static enum status show_owners(const struct named *image, const struct owners *owners,
 			       const struct options *options)
@@ -73,7 +88,9 @@ static enum status show_owners(const struct named *image, const struct owners *o
 	if (number != PAJURENDA_ACCEPTED)
 		return fail_answer();
 	const bool named = load_naming(options, image, trial.reading, &naming);
-	if (named)
+	if (named && is_json())
+		write_owned(owners, image, trial.reading, &naming);
+	else if (named)
 		show_owned(&owners->list, trial.reading, &naming);
 	end_naming(&naming);
 	return named ? FINE : FAILED;

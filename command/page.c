@@ -5,10 +5,8 @@
 
 #include <inttypes.h>
 #include <stdlib.h>
-#include <time.h>
 
 #include "files.h"
-#include "help.h"
 #include "letters.h"
 #include "messages.h"
 #include "signs.h"
@@ -17,6 +15,22 @@
 #define MOST_BYTES ((uint64_t)24)
 
 /* ---- small ones ---- */
+
+/* A line begun; false where there is no memory for it, which end_made then says. */
+bool begin_made(struct made *made)
+{
+	*made = (struct made){ .at = NULL };
+	made->line = open_memstream(&made->at, &made->length);
+	return made->line != NULL;
+}
+
+/* The line as text of the page. */
+void end_made(FILE *to, struct made *made)
+{
+	const bool whole = made->line != NULL && fclose(made->line) == 0;
+	put_page_text(to, whole ? made->at : "no memory to show it");
+	free(made->at);
+}
 
 /* A count with its word. */
 void put_plural(FILE *to, uint64_t count, const char *one, const char *many)
@@ -70,6 +84,8 @@ void put_verdict_words(const struct page *page)
 	fputs(verdict_of(page->check), page->to);
 	if (required != NULL)
 		fprintf(page->to, ", %s", required);
+	if (open_of(page->check) != NULL)
+		fprintf(page->to, ", %s", open_of(page->check));
 }
 
 /* Nothing may be fetched and no script run, even where one came to stand in the page. */
@@ -82,47 +98,36 @@ static void put_head(const struct page *page)
 	      "<title>", page->to);
 	fputs(page->check->verify ? "Verify: " : "Audit: ", page->to);
 	put_verdict_words(page);
+	fputs(": ", page->to);
+	put_title_text(page->to, page->check->shipped.name);
 	fputs("</title>\n<style>\n", page->to);
-	put_style(page->to);
+	put_style(page->to, page->name, page->check->options->number);
 	fputs("</style>\n</head>\n<body>\n<main>\n", page->to);
 }
 
-/* What was checked, when, and by which tool. */
-static void put_top(const struct page *page)
+/* What is signed: the files, and under them the names. Where both fit a sheet they stand on one. */
+static void put_signed(const struct page *page)
 {
-	char when[40] = "unknown";
-	const time_t now = time(NULL);
-	const struct tm *parts = gmtime(&now);
-	if (parts != NULL)
-		strftime(when, sizeof when, "%Y-%m-%d %H:%M:%S UTC", parts);
-	fprintf(page->to, "<header>\n<p class=\"kind\">Firmware support image · %s</p>\n<h1>",
-		page->check->verify ? "check against the release sheets" : "audit against the maker's image");
-	put_page_text(page->to, page->check->shipped.name);
-	fprintf(page->to, "</h1>\n<p class=\"made\">Made on <time>%s</time> by pajurenda %s, proved with ",
-		when, PAJURENDA_VERSION);
-	put_page_text(page->to, kit_name());
-	fputs(".</p>\n</header>\n", page->to);
-}
-
-/* Who signs, on paper. */
-static void put_end(FILE *to)
-{
-	fputs("<section class=\"sign-off\">\n<p>Checked by</p><p>Date</p><p>Signature</p>\n</section>\n"
-	      "</main>\n</body>\n</html>\n", to);
-}
-
-/* All parts of an accepted check after its verdict. */
-static void put_found(const struct page *page, const struct tally *tally)
-{
+	fputs("<div class=\"signed\">\n", page->to);
 	put_files(page);
-	put_facts(page);
-	put_maps(page);
-	put_ranges(page, tally);
-	put_sheets(page);
-	put_words(page);
+	put_sign_off(page->to);
+	fputs("</div>\n", page->to);
 }
 
-/* The whole page; of a refused check the verdict and the files. */
+/* What stands behind it, of an accepted check; on paper from a new sheet on. */
+static void put_behind(const struct page *page)
+{
+	fputs("<div class=\"behind\">\n", page->to);
+	put_maps(page);
+	put_facts(page);
+	put_sheets(page);
+	put_changed_settings(page);
+	put_words(page);
+	put_about(page);
+	fputs("</div>\n", page->to);
+}
+
+/* The whole page: what is signed, then what stands behind it; of a refused check no differences and no maps. */
 static void put_page(const struct page *page)
 {
 	const bool refused = page->check->number != PAJURENDA_ACCEPTED;
@@ -133,32 +138,33 @@ static void put_page(const struct page *page)
 	put_top(page);
 	put_page_naming(page);
 	put_verdict(page, &tally);
-	if (!refused)
+	if (!refused) {
 		put_page_must(page);
+		put_ranges(page, &tally);
+	}
+	put_signed(page);
 	if (refused)
-		put_files(page);
+		put_about(page);
 	else
-		put_found(page, &tally);
-	put_end(page->to);
+		put_behind(page);
+	fputs("</main>\n</body>\n</html>\n", page->to);
 }
 
-/* The page written whole or not at all; false after a message. */
-bool save_page(const struct check *check, const char *name, const struct named *text)
+/* The page in memory of its own, to be let go; false after a message. */
+bool make_page(const struct check *check, const struct named *text, struct output *made)
 {
 	char *at = NULL;
 	size_t length = 0;
-	const struct page page = { .to = open_memstream(&at, &length), .check = check, .text = text };
+	const struct page page = { .to = open_memstream(&at, &length), .name = made->name, .check = check, .text = text };
 	if (page.to == NULL) {
-		fail_no_memory(name);
+		fail_no_memory(made->name);
 		return false;
 	}
 	put_page(&page);
 	const bool whole = ferror(page.to) == 0;
 	const bool closed = fclose(page.to) == 0;
-	const struct bytes bytes = { .at = (uint8_t *)at, .length = length };
+	made->bytes = (struct bytes){ .at = (uint8_t *)at, .length = length };
 	if (!whole || !closed)
-		fail_no_memory(name);
-	const bool saved = whole && closed && save(name, &bytes);
-	free(at);
-	return saved;
+		fail_no_memory(made->name);
+	return whole && closed;
 }

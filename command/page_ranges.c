@@ -28,12 +28,15 @@ static void put_row(const struct page *page, const struct ranges *ranges, const 
 {
 	const struct check *check = page->check;
 	struct change change;
+	struct made made;
 	const bool setting = range_change(ranges, range, &change);
 	FILE *to = page->to;
 	fprintf(to, "<tr class=\"%s\"><td>%s</td><td class=\"at\">%" PRIu64 "..%" PRIu64
-		"</td><td class=\"number\">%" PRIu64 "</td><td class=\"at\">", range->stray ? "stray" : "setting",
+		"</td><td class=\"number\">%" PRIu64 "</td><td class=\"where\">", range->stray ? "stray" : "setting",
 		range->stray ? "X stray" : "S setting", range->first, range->last, length_of(range));
-	put_where(to, ranges, range);
+	if (begin_made(&made))
+		put_where(made.line, ranges, range);
+	end_made(to, &made);
 	if (setting)
 		put_page_names(page, &change, check->verify ? " is " : " -> ");
 	fputs("</td><td class=\"bytes\">", to);
@@ -74,7 +77,7 @@ static void put_rest(const struct page *page, uint64_t ranges, uint64_t bytes)
 	if (page->text != NULL) {
 		fputs("Every range is in ", to);
 		put_page_text(to, page->text->name);
-		fputs(", the whole list above.", to);
+		fputs(", the whole list.", to);
 	} else {
 		fputs("The option --text FILE writes every one of them beside this page.", to);
 	}

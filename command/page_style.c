@@ -1,5 +1,6 @@
 /* The page's style: calm on a screen, narrow on a phone, whole lines on A4. */
 #include "page.h"
+#include "signs.h"
 
 static const char style[] =
 	"*{box-sizing:border-box}\n"
@@ -31,17 +32,34 @@ static const char style[] =
 	"th,td{padding:.35rem .8rem .35rem 0;text-align:left;vertical-align:top;border-bottom:1px solid #e4e8ec}\n"
 	"th{font-weight:600;font-size:.8rem}\n"
 	"th:last-child,td:last-child{padding-right:0}\n"
-	".number{text-align:right;white-space:nowrap;width:1%}\n"
+	".number{text-align:right;white-space:nowrap}\n"
 	".number+td,.number+th{padding-left:.6rem}\n"
 	"th,.at{white-space:nowrap}\n"
+	".ranges,.files,.needs,.entries,.selves,.words,.settled,.boards,.apart{table-layout:fixed}\n"
+	".ranges th,.files th,.needs th,.entries th,.selves th,.words th,.settled th,.boards th,.apart th,.ranges .at,.entries .at,.settled .at{white-space:normal;overflow-wrap:anywhere}\n"
+	".ranges td,.files td,.needs td,.entries td,.selves td,.words td,.settled td,.boards td,.apart td{overflow-wrap:anywhere}\n"
+	".ranges th:nth-child(1){width:5.2rem}.ranges th:nth-child(2){width:11%}.ranges th:nth-child(3){width:3.6rem}\n"
+	".audited th:nth-child(4){width:34%}.verified th:nth-child(4){width:25%}.verified th:nth-child(7){width:17%}\n"
+	".files th:nth-child(1){width:8rem}.files th:nth-child(3){width:5.6rem}.files th:nth-child(4){width:44%}\n"
+	".needs th:nth-child(1){width:30%}.needs th:nth-child(5){width:5rem}\n"
+	".entries th:nth-child(1){width:3.6rem}.entries th:nth-child(2){width:24%}.entries th:nth-child(3){width:3.6rem}\n"
+	".entries th:nth-child(6){width:18%}\n"
+	".selves th:nth-child(1){width:9rem}.selves th:nth-child(4){width:26%}\n"
+	".words th:nth-child(1){width:34%}.words th:nth-child(2){width:6rem}\n"
 	".number,.at,.bytes,.digest,dd{font-variant-numeric:tabular-nums}\n"
 	".bytes,.digest,code,dd{font-family:ui-monospace,'Cascadia Mono',Menlo,'DejaVu Sans Mono','Liberation Mono',monospace;"
 	"font-size:.84rem}\n"
-	".files td:first-child,.ranges td:first-child{white-space:nowrap}\n"
-	".digest{min-width:17rem}.file{min-width:7rem}\n"
+	".ranges td:first-child{white-space:nowrap}\n"
 	".stray td:first-child{font-weight:700}\n"
-	".ranges td:nth-child(7){min-width:11rem}\n"
-	".cut{color:#57606a;font-family:system-ui,sans-serif;white-space:nowrap}\n"
+	".cut{color:#57606a;font-family:system-ui,sans-serif}\n"
+	".values{margin-top:.35rem;font-size:.9rem}\n"
+	".path{color:#57606a;font-size:.82em}\n"
+	".remark{margin-top:.5rem;white-space:pre-line}\n"
+	".report-number{font-weight:650}\n"
+	".about{grid-template-columns:1fr}\n"
+	".about dd{font-family:inherit;font-size:.9rem}\n"
+	".signed{break-inside:avoid}\n"
+	".behind{break-before:page}\n"
 	".sign{border:1px solid #8c959f;border-radius:2px;padding:0 .2em;font-size:.8em}\n"
 	"dl{display:grid;grid-template-columns:repeat(auto-fill,minmax(13rem,1fr));gap:.8rem 1.5rem}\n"
 	"dt{font-size:.8rem;font-weight:600}\n"
@@ -68,7 +86,7 @@ static const char style[] =
 	".legend{list-style:none;padding:0;display:flex;flex-wrap:wrap;gap:.3rem 1.4rem;font-size:.875rem;margin-top:.6rem}\n"
 	".legend svg{width:.85rem;height:.85rem;margin-right:.45rem;vertical-align:-.1rem}\n"
 	".legend .at{color:#57606a}\n"
-	".sign-off{display:grid;grid-template-columns:2fr 1fr 2fr;gap:1.5rem;margin-top:4rem}\n"
+	".sign-off{display:grid;grid-template-columns:2fr 1fr 2fr;gap:1.5rem;margin-top:3.5rem;break-inside:avoid;break-before:avoid}\n"
 	".sign-off p{border-top:1px solid #57606a;padding-top:.25rem;font-size:.8rem;color:#57606a}\n"
 	"@media screen and (max-width:44rem){\n"
 	"main{padding:1.25rem 1rem 2rem}\n"
@@ -83,7 +101,16 @@ static const char style[] =
 	"td{overflow-wrap:anywhere}\n"
 	"dl{grid-template-columns:repeat(auto-fill,minmax(9rem,1fr));gap:.7rem 1rem}\n"
 	"td::before{position:absolute;left:0;width:7rem;font:600 .8rem/1.7 system-ui,sans-serif;color:#57606a}\n"
-	".digest,.file,.ranges td:nth-child(7){min-width:0}\n"
+	".settled td:nth-child(1)::before{content:'Offset'}.settled td:nth-child(2)::before{content:\"Maker's\"}"
+	".settled td:nth-child(3)::before{content:'Shipped file'}.settled td:nth-child(4)::before{content:'Set by'}"
+	".settled td:nth-child(5)::before{content:'Released by'}\n"
+	".boards td:nth-child(1)::before{content:'Board'}.boards td:nth-child(2)::before{content:'Record'}"
+	".boards td:nth-child(3)::before{content:'Image'}.boards td:nth-child(4)::before{content:'Base'}"
+	".boards td:nth-child(5)::before{content:'Sheets'}.boards td:nth-child(6)::before{content:'Settings'}\n"
+	".apart td:nth-child(1)::before{content:'What'}.apart td:nth-child(2)::before{content:'On each board'}\n"
+	".boards th:nth-child(1){width:3.6rem}\n"
+	".selves td:nth-child(1)::before{content:'What'}.selves td:nth-child(2)::before{content:\"Maker's\"}"
+	".selves td:nth-child(3)::before{content:'Shipped'}.selves td:nth-child(4)::before{content:'Alike'}\n"
 	".files td:nth-child(1)::before{content:'What'}.files td:nth-child(2)::before{content:'Name'}"
 	".files td:nth-child(3)::before{content:'Bytes'}.files td:nth-child(4)::before{content:'SHA-256'}\n"
 	".ranges td:nth-child(1)::before{content:'Kind'}.ranges td:nth-child(2)::before{content:'Position'}"
@@ -102,7 +129,6 @@ static const char style[] =
 	".words td:nth-child(5)::before{content:'Is'}\n"
 	".sign-off{grid-template-columns:1fr;gap:2.5rem}\n"
 	"}\n"
-	"@page{size:A4;margin:16mm 15mm}\n"
 	"@media print{\n"
 	"*{-webkit-print-color-adjust:exact;print-color-adjust:exact}\n"
 	"html{font-size:12.5px}\n"
@@ -113,10 +139,26 @@ static const char style[] =
 	"tr,.lane,.map,.verdict,.legend,.note,.sign-off,dl div{break-inside:avoid}\n"
 	"thead{display:table-header-group}\n"
 	"p{orphans:3;widows:3}\n"
-	".sign-off{margin-top:16mm}\n"
+	".sign-off{margin-top:14mm}\n"
 	"}\n";
 
-void put_style(FILE *to)
+/* On every printed sheet: the page's own name, the report's number where it has one, and how far it is. */
+static void put_foot(FILE *to, const char *name, const char *number)
+{
+	fputs("@page{size:A4;margin:16mm 15mm 18mm;\n@bottom-left{content:", to);
+	if (number != NULL) {
+		put_style_text(to, number);
+		fputs(" \" · \" ", to);
+	}
+	put_style_text(to, name);
+	fputs(";font:9px system-ui,sans-serif;color:#57606a}\n"
+	      "@bottom-right{content:\"Page \" counter(page) \" of \" counter(pages);font:9px system-ui,sans-serif;"
+	      "color:#57606a}}\n", to);
+}
+
+/* The style of a page of that name; the number is NULL where it has none. */
+void put_style(FILE *to, const char *name, const char *number)
 {
 	fputs(style, to);
+	put_foot(to, name, number);
 }

@@ -9,8 +9,9 @@
 #include <stdio.h>
 
 #include "edition.h"
-#include "letters.h"
+#include "fields.h"
 #include "messages.h"
+#include "module_names.h"
 #include "show.h"
 
 /* ---- where a position lies ---- */
@@ -19,13 +20,26 @@
 static struct map map_rooms(const struct check *check)
 {
 	const uint8_t *reading = check->reading;
-	return (struct map){
+	struct map map = {
 		.contents = &check->contents,
+		.letters = letters_of(&check->vendor.bytes),
 		.older = is_older(reading),
 		.header = pajurenda_field(reading, PAJURENDA_READ_HEADER),
 		.end = header_end(&check->vendor.bytes, reading),
 		.region = is_older(reading) ? NO_REGION : pajurenda_field(reading, PAJURENDA_READ_REGION),
 	};
+	start_stretches(&map.stretches, &check->vendor.bytes);
+	(void)next_stretch(&map.stretches, &map.stretch);
+	return map;
+}
+
+/* A position in no other room: within the first volume elsewhere, after it in another volume or in none. */
+static void find_stretch(struct map *map, uint64_t at, struct lying *lying)
+{
+	while (at >= map->stretch.place + map->stretch.length && next_stretch(&map->stretches, &map->stretch))
+		;
+	lying->room = map->stretch.place == 0 ? ELSEWHERE : map->stretch.number == 0 ? AFTER_VOLUME : IN_VOLUME;
+	lying->index = lying->room == IN_VOLUME ? map->stretch.number : 0;
 }
 
 /* The base word of an edition 1 image, whose words are in no list. */
@@ -69,10 +83,13 @@ static struct lying find_room(struct map *map, uint64_t at)
 		lying.room = BASE_WORD;
 	} else if (at >= map->header && at < map->end) {
 		lying.room = map->older ? FSP_HEADER : TABLES;
+		lying.index = map->older ? 0 : field_at(&map->letters, at);
 	} else if (at >= map->region && at - map->region < 32) {
 		lying.room = REGION_HEADER;
 	} else if (lying.module != NO_MODULE) {
 		lying.room = MODULE_BYTES;
+	} else {
+		find_stretch(map, at, &lying);
 	}
 	return lying;
 }
@@ -91,7 +108,7 @@ static struct settled settled_at(const struct ranges *ranges, uint64_t at)
 /* The i-th place as a range of one; the library says which is a setting. */
 static struct range range_of(struct ranges *ranges, uint64_t i)
 {
-	const uint32_t place = pajurenda_place(ranges->check->found.places, (size_t)i);
+	const uint32_t place = pajurenda_place(ranges->findings->places, (size_t)i);
 	const uint64_t at = pajurenda_position(place);
 	struct range range = { .stray = pajurenda_is_stray(place) != 0, .first = at, .last = at,
 			       .where = { .room = SETTINGS } };
@@ -116,11 +133,23 @@ static bool goes_on(const struct range *one, const struct range *next)
 	       next->set.changed == one->set.changed;
 }
 
-/* The list of a check that the library has accepted, from its start. */
+/* A list of a check that the library has accepted, from its start. */
+static void start_list(struct ranges *ranges, const struct check *check, const struct findings *findings)
+{
+	*ranges = (struct ranges){ .check = check, .findings = findings, .map = map_rooms(check),
+				   .count = differences(findings) };
+}
+
+/* What differs from what the file should be. */
 void start_ranges(struct ranges *ranges, const struct check *check)
 {
-	*ranges = (struct ranges){ .check = check, .map = map_rooms(check),
-				   .count = differences(&check->found) };
+	start_list(ranges, check, &check->found);
+}
+
+/* Of a verify: what differs from the maker's image moved. */
+void start_changes(struct ranges *ranges, const struct check *check)
+{
+	start_list(ranges, check, &check->from_vendor);
 }
 
 /* The next range; false after the last. */
@@ -153,25 +182,49 @@ const char *name_room(enum room room)
 		[IMAGE_BASE] = "image base",       [RELOCATION_WORD] = "relocation word",
 		[TABLES] = "tables",               [REGION_HEADER] = "region header",
 		[SETTINGS] = "region offset",      [MODULE_BYTES] = "module",
-		[ELSEWHERE] = "elsewhere",         [FSP_HEADER] = "FSP header",
+		[ELSEWHERE] = "elsewhere",         [IN_VOLUME] = "in volume",
+		[AFTER_VOLUME] = "after the volume", [FSP_HEADER] = "FSP header",
 	};
 	return names[room];
 }
 
-/* What a range belongs to, and the module that holds it; of a module's other bytes the module alone. */
-void put_where(FILE *to, const struct ranges *ranges, const struct range *range)
+/* A module: its number, its name where its file has one, and its file's GUID. */
+static void put_module(FILE *to, const struct contents *contents, uint64_t module)
 {
-	const struct lying *where = &range->where;
+	char name[MODULE_NAME_BYTES];
+	fprintf(to, "module %" PRIu64 " ", module);
+	if (name_module(contents, module, name)) {
+		fputc('"', to);
+		put_name(to, name);
+		fputs("\" ", to);
+	}
+	show_guid(to, guid_of(contents, module));
+}
+
+/* What something belongs to, from this offset of the region on where it is a setting, and the module that holds it;
+   of a module's other bytes the module alone. */
+void put_lying(FILE *to, const struct contents *contents, const struct lying *where, uint64_t offset)
+{
 	if (where->room != MODULE_BYTES)
 		fputs(name_room(where->room), to);
-	if (where->room == PATCH_WORD || where->room == RELOCATION_WORD)
+	if (where->room == PATCH_WORD || where->room == RELOCATION_WORD || where->room == IN_VOLUME)
 		fprintf(to, " %" PRIu64, where->index);
+	if (where->room == TABLES) {
+		fputs(": ", to);
+		put_field(to, where->index);
+	}
 	if (where->room == SETTINGS)
-		fprintf(to, " 0x%04" PRIX64, range->first - ranges->map.region);
+		fprintf(to, " 0x%04" PRIX64, offset);
 	if (where->module == NO_MODULE)
 		return;
-	fprintf(to, "%smodule %" PRIu64 " ", where->room == MODULE_BYTES ? "" : " in ", where->module);
-	show_guid(to, guid_of(ranges->map.contents, where->module));
+	fputs(where->room == MODULE_BYTES ? "" : " in ", to);
+	put_module(to, contents, where->module);
+}
+
+/* What a range belongs to. */
+void put_where(FILE *to, const struct ranges *ranges, const struct range *range)
+{
+	put_lying(to, ranges->map.contents, &range->where, range->first - ranges->map.region);
 }
 
 /* Kind, first and last position, length, and where it lies. */
@@ -183,7 +236,7 @@ void put_place(FILE *to, const struct ranges *ranges, const struct range *range)
 }
 
 /* A range's bytes in a file, at most so many of them. */
-static void put_bytes(FILE *to, const struct bytes *file, const struct range *range, uint64_t most)
+void put_range_bytes(FILE *to, const struct bytes *file, const struct range *range, uint64_t most)
 {
 	const uint64_t count = length_of(range) < most ? length_of(range) : most;
 	if (!has_bytes(file, range->first, length_of(range)))
@@ -236,6 +289,31 @@ static void put_range_number(FILE *to, const struct bytes *file, const struct ra
 		put_number_of(to, " = ", file->at + range->first, (size_t)length_of(range));
 }
 
+/* Settings that aren't the maker's any more: both values, and who set them. */
+void put_changed(FILE *to, const struct ranges *ranges, const struct range *range)
+{
+	const struct check *check = ranges->check;
+	const uint64_t length = length_of(range);
+	if (!has_bytes(&check->vendor.bytes, range->first, length) ||
+	    !has_bytes(&check->shipped.bytes, range->first, length))
+		return;
+	const struct change change = { .offset = range->first - ranges->map.region, .place = range->first,
+				       .length = (size_t)length, .old = check->vendor.bytes.at + range->first,
+				       .new = check->shipped.bytes.at + range->first, .whole = true };
+	fputs("changed ", to);
+	put_change(to, &change);
+	if (range->set.sheet == 0) {
+		fputs(", no sheet sets it", to);
+	} else {
+		const struct releaser *releaser = &check->releasers[range->set.sheet - 1];
+		fprintf(to, ", sheet %" PRIu32 " entry %" PRIu32, range->set.sheet, range->set.entry);
+		if (releaser->list != NULL)
+			fprintf(to, " owner %" PRIu64, releaser->owner);
+	}
+	put_names(to, names_of(&check->naming), &change, " -> ");
+	fputc('\n', to);
+}
+
 /* A range with both bytes, at most so many of them, and who sets it; in an audit the first are the maker's,
    moved. */
 void put_range(FILE *to, const struct ranges *ranges, const struct range *range, uint64_t most)
@@ -243,10 +321,10 @@ void put_range(FILE *to, const struct ranges *ranges, const struct range *range,
 	const struct check *check = ranges->check;
 	put_place(to, ranges, range);
 	fputs(check->verify ? " should " : " maker's ", to);
-	put_bytes(to, &check->reference, range, most);
+	put_range_bytes(to, &check->reference, range, most);
 	put_range_number(to, &check->reference, range);
 	fputs(" is ", to);
-	put_bytes(to, &check->shipped.bytes, range, most);
+	put_range_bytes(to, &check->shipped.bytes, range, most);
 	put_range_number(to, &check->shipped.bytes, range);
 	put_setter(to, check, range);
 	put_range_names(to, ranges, range, check->verify ? " is " : " -> ");

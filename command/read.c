@@ -10,6 +10,7 @@
 #include "messages.h"
 #include "refusals.h"
 #include "show.h"
+#include "volumes.h"
 
 /* A field under its name, in decimal. */
 static void show_field(const char *name, const uint8_t *answer, size_t field)
@@ -57,6 +58,7 @@ static void show_reading(const struct bytes *image, const uint8_t *answer)
 	show_field("end", answer, PAJURENDA_READ_END);
 	printf("region c %" PRIu64 " z %" PRIu64 "\n", pajurenda_field(answer, PAJURENDA_READ_REGION),
 	       pajurenda_field(answer, PAJURENDA_READ_SIZE));
+	show_volumes(image);
 }
 
 /* All lines of an accepted image. */
@@ -77,7 +79,7 @@ static void show_image(const struct contents *contents, const uint8_t *answer, u
 /* What an edition 1 image doesn't tell. */
 static void write_unjudged(void)
 {
-	static const char *const names[] = { "patches", "end", "region", "modules", "words", "relocation_words" };
+	static const char *const names[] = { "patches", "end", "region", "volumes", "modules", "words", "relocation_words" };
 	for (size_t i = 0; i < sizeof names / sizeof names[0]; i++)
 		json_text(names[i], NULL);
 }
@@ -90,7 +92,7 @@ static void write_reading(const struct bytes *image, const uint8_t *answer)
 	json_number("length", image->length);
 	json_number("edition", pajurenda_edition(answer));
 	json_text("component", is_older(answer) ? NULL : letters[component <= 4 ? component : 0]);
-	json_bound(pajurenda_identity(answer), pajurenda_field(answer, PAJURENDA_READ_REVISION),
+	json_bound_parts(pajurenda_identity(answer), pajurenda_field(answer, PAJURENDA_READ_REVISION),
 		   pajurenda_field(answer, PAJURENDA_READ_EXTENDED));
 	fputs(",\n  \"version\": \"", stdout);
 	show_version_of(stdout, answer);
@@ -106,6 +108,7 @@ static void write_reading(const struct bytes *image, const uint8_t *answer)
 	printf(",\n  \"region\": {\"place\": %" PRIu64 ", \"size\": %" PRIu64 "}",
 	       pajurenda_field(answer, PAJURENDA_READ_REGION),
 	       pajurenda_field(answer, PAJURENDA_READ_SIZE));
+	write_volumes(image);
 }
 
 /* What an accepted image has inside. */
@@ -164,13 +167,14 @@ static enum status read_image(const struct named *image, struct contents *conten
 	keep_refusals(json);
 	if (number == PAJURENDA_ACCEPTED && find_contents(&image->bytes, answer, contents, options) != FINE)
 		return FAILED;
+	enum status status = FINE;
+	if (number != PAJURENDA_ACCEPTED)
+		status = refuse_image(number, pajurenda_field(answer, PAJURENDA_READ_INDEX), image);
 	if (json)
 		write_image(image, contents, number, answer, options);
-	if (number != PAJURENDA_ACCEPTED)
-		return refuse_image(number, pajurenda_field(answer, PAJURENDA_READ_INDEX), image);
-	if (!json)
+	else if (number == PAJURENDA_ACCEPTED)
 		show_image(contents, answer, options);
-	return FINE;
+	return status;
 }
 
 /* read [--modules] [--words] [--json] IMAGE */

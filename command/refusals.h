@@ -3,6 +3,7 @@
 #define COMMAND_REFUSALS_H
 
 #include <stdbool.h>
+#include <stdio.h>
 
 #include "command.h"
 
@@ -24,7 +25,14 @@ struct owners;
 void keep_refusals(bool from_output);
 void say_length(const struct bytes *file);
 void say_bytes(const struct bytes *file, uint64_t at, size_t count);
+FILE *saying(void);
+const char *refusal_values(void);
+uint32_t refusal_number(void);
+uint64_t refusal_index(void);
+void note_index(uint64_t index);
+void begin_line(const char *name);
 void print_refused(uint32_t number);
+void begin_told_refusal(uint32_t number, const char *name);
 void begin_refusal(uint32_t number, const char *name);
 void say_rule(uint32_t number);
 enum status end_refusal(void);
@@ -42,7 +50,7 @@ enum status refuse_byte(const struct named *sheet, const struct asked *asked, ui
 enum status refuse_setting(const struct named *image, const struct asked *asked, uint64_t size);
 enum status refuse_new_base(const struct named *image, uint64_t base);
 enum status refuse_text_base(const struct named *image, uint64_t base);
-enum status refuse_shipped_base(const struct named *shipped, uint64_t position);
+void begin_shipped_base(const struct named *shipped, uint64_t position);
 enum status refuse_handoff(uint32_t number, uint64_t place, const struct named *dump);
 enum status refuse_pair(const struct named *vendor, const struct named *shipped);
 

@@ -20,8 +20,8 @@ static const struct named *find_bad(struct folding *folding, uint32_t number)
 /* The three parts of an identity, alike in form for both sheets. */
 static void say_bound(const struct named *sheet)
 {
-	show_identity(stderr, sheet->bytes.at);
-	fprintf(stderr, " revision 0x%08" PRIX64 " extended 0x%04" PRIX64,
+	show_identity(saying(), sheet->bytes.at);
+	fprintf(saying(), " revision 0x%08" PRIX64 " extended 0x%04" PRIX64,
 		number_at(&sheet->bytes, 8, 4), number_at(&sheet->bytes, 14, 2));
 }
 
@@ -30,11 +30,11 @@ static enum status refuse_other(const struct named *first, const struct named *s
 {
 	begin_refusal(PAJURENDA_IDENTITY, sheet->name);
 	fputs("the sheets that are folded must all be for one identity, revision and extended number; "
-	      "the sheet is for ", stderr);
+	      "the sheet is for ", saying());
 	say_bound(sheet);
-	fputs(", ", stderr);
-	say_name(first->name);
-	fputs(" is for ", stderr);
+	fputs(", ", saying());
+	put_name(saying(), first->name);
+	fputs(" is for ", saying());
 	say_bound(first);
 	return end_refusal();
 }
@@ -49,7 +49,7 @@ static enum status refuse_large(struct folding *folding)
 		return fail_answer();
 	begin_refusal(PAJURENDA_FOLDED, folding->sheets[fold].name);
 	say_rule(PAJURENDA_FOLDED);
-	fprintf(stderr, "it is sheet %zu of %zu, and those before it fold into one sheet of %" PRIu64
+	fprintf(saying(), "it is sheet %zu of %zu, and those before it fold into one sheet of %" PRIu64
 		" entries and %zu bytes", fold + 1, folding->count, number_at(&folding->folded, 12, 2),
 		folding->folded.length);
 	return end_refusal();

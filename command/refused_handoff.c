@@ -13,7 +13,7 @@
 /* What a block's header says. */
 static void say_block(const struct bytes *dump, uint64_t place)
 {
-	fprintf(stderr, "type 0x%04" PRIX64 ", length %" PRIu64, number_at(dump, place, 2),
+	fprintf(saying(), "type 0x%04" PRIX64 ", length %" PRIu64, number_at(dump, place, 2),
 		number_at(dump, place + 2, 2));
 }
 
@@ -23,12 +23,12 @@ static void say_length_left(const struct bytes *dump, uint64_t place)
 	const uint64_t left = place < dump->length ? dump->length - place : 0;
 	if (left >= 8) {
 		say_block(dump, place);
-		fputs(", ", stderr);
+		fputs(", ", saying());
 	}
 	if (left > LONGEST_BLOCK)
-		fprintf(stderr, "more than %d bytes left", LONGEST_BLOCK);
+		fprintf(saying(), "more than %d bytes left", LONGEST_BLOCK);
 	else
-		fprintf(stderr, "%" PRIu64 " bytes left", left);
+		fprintf(saying(), "%" PRIu64 " bytes left", left);
 }
 
 /* A list's refusal, 30 to 33, on standard error alone. */
@@ -36,14 +36,14 @@ enum status refuse_handoff(uint32_t number, uint64_t place, const struct named *
 {
 	if (number < PAJURENDA_BLOCK || number > PAJURENDA_KIND)
 		return fail_answer();
-	say_name(dump->name);
-	fprintf(stderr, ": refused %" PRIu32 " %s at %" PRIu64 ": ", number, pajurenda_name(number),
+	begin_line(dump->name);
+	fprintf(saying(), ": refused %" PRIu32 " %s at %" PRIu64 ": ", number, pajurenda_name(number),
 		place);
 	say_rule(number);
 	if (number == PAJURENDA_BLOCK)
 		say_length_left(&dump->bytes, place);
 	else if (number == PAJURENDA_NOTHING)
-		fprintf(stderr, "the file has %zu bytes", dump->bytes.length);
+		fprintf(saying(), "the file has %zu bytes", dump->bytes.length);
 	else
 		say_block(&dump->bytes, place);
 	return end_refusal();

@@ -2,6 +2,7 @@
 #include <inttypes.h>
 #include <stdio.h>
 
+#include "components.h"
 #include "letters.h"
 #include "messages.h"
 #include "modules.h"
@@ -12,14 +13,14 @@
 /* A number with its letter or name before it. */
 static void say(const char *name, uint64_t value)
 {
-	fprintf(stderr, "%s %" PRIu64, name, value);
+	fprintf(saying(), "%s %" PRIu64, name, value);
 }
 
 /* 1: how long the file is. */
 static void say_one(const struct letters *w, uint64_t index)
 {
 	(void)index;
-	fputs("the file has ", stderr);
+	fputs("the file has ", saying());
 	say_length(w->image);
 }
 
@@ -36,16 +37,16 @@ static unsigned sum_of_words(const struct letters *w)
 static void say_volume(const struct letters *w, uint64_t index)
 {
 	(void)index;
-	fputs("mark ", stderr);
+	fputs("mark ", saying());
 	say_bytes(w->image, 40, 4);
 	say(", h", w->h);
 	say(", V", w->V);
 	if (w->h % 2 == 0 && has_bytes(w->image, 0, w->h))
-		fprintf(stderr, ", sum 0x%04X", sum_of_words(w));
+		fprintf(saying(), ", sum 0x%04X", sum_of_words(w));
 	say(", x", w->x);
 	if (w->x != 0 && has_bytes(w->image, w->x + 16, 4))
 		say(", e", w->e);
-	fputs(", the file has ", stderr);
+	fputs(", the file has ", saying());
 	say_length(w->image);
 }
 
@@ -56,13 +57,13 @@ static void say_file(const struct letters *w, uint64_t index)
 	say("f", w->f);
 	say(", V", w->V);
 	if (!has_bytes(w->image, w->f, 24)) {
-		fputs(", no 24 bytes in the file there", stderr);
+		fputs(", no 24 bytes in the file there", saying());
 		return;
 	}
-	fputs(", name ", stderr);
-	show_guid(stderr, w->image->at + w->f);
-	fprintf(stderr, ", attributes 0x%02" PRIX64, number_at(w->image, w->f + 19, 1));
-	fprintf(stderr, ", sum 0x%02X", sum_of_file(w->image, w->f));
+	fputs(", name ", saying());
+	show_guid(saying(), w->image->at + w->f);
+	fprintf(saying(), ", attributes 0x%02" PRIX64, number_at(w->image, w->f + 19, 1));
+	fprintf(saying(), ", sum 0x%02X", sum_of_file(w->image, w->f));
 	say(", s", w->s);
 }
 
@@ -70,7 +71,7 @@ static void say_file(const struct letters *w, uint64_t index)
 static void say_section(const struct letters *w, uint64_t index)
 {
 	(void)index;
-	fprintf(stderr, "type 0x%02" PRIX64, number_at(w->image, w->f + 27, 1));
+	fprintf(saying(), "type 0x%02" PRIX64, number_at(w->image, w->f + 27, 1));
 	say(", size", w->section);
 	say(", s", w->s);
 	if (w->section >= 64 && w->section < 76 && has_bytes(w->image, w->H + 11, 1))
@@ -81,7 +82,7 @@ static void say_section(const struct letters *w, uint64_t index)
 static void say_header(const struct letters *w, uint64_t index)
 {
 	(void)index;
-	fputs("mark ", stderr);
+	fputs("mark ", saying());
 	say_bytes(w->image, w->H, 4);
 	say(" at H", w->H);
 	say(", revision", number_at(w->image, w->H + 11, 1));
@@ -93,23 +94,46 @@ static void say_header(const struct letters *w, uint64_t index)
 static void say_size(const struct letters *w, uint64_t index)
 {
 	(void)index;
-	fprintf(stderr, "header says %" PRIu64 " bytes, the file has %zu",
+	fprintf(saying(), "header says %" PRIu64 " bytes, the file has %zu",
 		number_at(w->image, w->H + 24, 4), w->image->length);
 }
 
 /* 7: the component's number. */
 static void say_component(const struct letters *w, uint64_t index)
 {
+	const uint64_t component = number_at(w->image, w->H + 34, 2) >> 12;
 	(void)index;
-	say("it is", number_at(w->image, w->H + 34, 2) >> 12);
+	say("it is", component);
+	fputs(component == 8 ? ", OEM" : "", saying());
 }
 
 /* 8: the base and the length it is for. */
 static void say_base(const struct letters *w, uint64_t index)
 {
 	(void)index;
-	fprintf(stderr, "0x%08" PRIX64 " for %zu bytes", number_at(w->image, w->H + 28, 4),
+	fprintf(saying(), "0x%08" PRIX64 " for %zu bytes", number_at(w->image, w->H + 28, 4),
 		w->image->length);
+}
+
+/* Another table stands where the patch table is to stand, by a mark of FSP's kind. */
+static bool is_other_table(const struct letters *w)
+{
+	return stands(w->image, w->p, "FSP") && !stands(w->image, w->p, "FSPP") && has_bytes(w->image, w->p, 8) &&
+	       is_printable(w->image->at + w->p, 4);
+}
+
+/* That table, and where a patch table stands after it. */
+static void say_other_table(const struct letters *w)
+{
+	const uint64_t end = w->f + 24 + w->section;
+	uint64_t at = w->p + 4;
+	fputs(": another table", saying());
+	while (at < end && has_bytes(w->image, at, 4) && !stands(w->image, at, "FSPP"))
+		at += 4;
+	if (at < end && stands(w->image, at, "FSPP"))
+		say(" stands before FSPP at", at);
+	else
+		fputs(" stands there, and no FSPP after it", saying());
 }
 
 /* 9: the extended header where one stands, then the table, and where the section ends. */
@@ -119,12 +143,14 @@ static void say_table(const struct letters *w, uint64_t index)
 	if (stands(w->image, w->g, "FSPE")) {
 		say("FSPE at", w->g);
 		say(" of length", number_at(w->image, w->g + 4, 4));
-		fputs(", ", stderr);
+		fputs(", ", saying());
 	}
-	fputs("mark ", stderr);
+	fputs("mark ", saying());
 	say_bytes(w->image, w->p, 4);
 	say(" at p", w->p);
-	if (has_bytes(w->image, w->p, 12)) {
+	if (is_other_table(w)) {
+		say_other_table(w);
+	} else if (has_bytes(w->image, w->p, 12)) {
 		say(", revision", number_at(w->image, w->p + 6, 1));
 		say(", n", w->n);
 		say(", E", w->E);
@@ -139,7 +165,7 @@ static void say_config(const struct letters *w, uint64_t index)
 	say("c", w->c);
 	say(", z", w->z);
 	say(", E", w->E);
-	fputs(", the file has ", stderr);
+	fputs(", the file has ", saying());
 	say_length(w->image);
 }
 
@@ -150,21 +176,21 @@ static void say_upd(const struct letters *w, uint64_t index)
 	(void)index;
 	say_bytes(w->image, w->c + 6, 2);
 	say(" at", w->c + 6);
-	fprintf(stderr, ", component %c", component <= 4 ? "?TMSI"[component] : '?');
+	fprintf(saying(), ", component %c", component <= 4 ? "?TMSI"[component] : '?');
 }
 
 /* 12, 22, 13, 14: the entry. */
 static void say_entry(const struct letters *w, uint64_t index)
 {
 	say("entry", index);
-	fprintf(stderr, " (counted from 0) is 0x%08" PRIX64, entry_at(w, index));
+	fprintf(saying(), " (counted from 0) is 0x%08" PRIX64, entry_at(w, index));
 }
 
 /* 12 to 14: where it points, too. */
 static void say_pointing(const struct letters *w, uint64_t index)
 {
 	say_entry(w, index);
-	fprintf(stderr, " and points to %" PRId64,
+	fprintf(saying(), " and points to %" PRId64,
 		where_it_points(entry_at(w, index), w->image->length));
 }
 
@@ -182,14 +208,14 @@ static void say_reserved(const struct letters *w, uint64_t index)
 	say_entry(w, index);
 	say(", its bit 31 is", entry >> 31 & 1);
 	say(", its bits 30 to 28 are", entry >> 30 & 1);
-	fprintf(stderr, "%" PRIu64 "%" PRIu64, entry >> 29 & 1, entry >> 28 & 1);
+	fprintf(saying(), "%" PRIu64 "%" PRIu64, entry >> 29 & 1, entry >> 28 & 1);
 }
 
 /* 13: where the image ends. */
 static void say_place(const struct letters *w, uint64_t index)
 {
 	say_pointing(w, index);
-	fprintf(stderr, ", the image has %zu bytes", w->image->length);
+	fprintf(saying(), ", the image has %zu bytes", w->image->length);
 }
 
 /* The earlier entry that points nearest to a place; the index itself where there is none. */
@@ -219,7 +245,7 @@ static void say_overlap(const struct letters *w, uint64_t index)
 	if (nearest == index)
 		return;
 	say(", nearest earlier entry", nearest);
-	fprintf(stderr, " at %" PRId64, where_it_points(entry_at(w, nearest), w->image->length));
+	fprintf(saying(), " at %" PRId64, where_it_points(entry_at(w, nearest), w->image->length));
 }
 
 /* 25, 26, 27: the file, section or module, as far as it can be found. */
@@ -272,8 +298,11 @@ enum status refuse_image(uint32_t number, uint64_t index, const struct named *im
 	if (number >= NUMBERS || say_values[number] == NULL)
 		return fail_answer();
 	begin_refusal(number, image->name);
+	note_index(index);
 	if (number != PAJURENDA_SIZE)
 		say_rule(number);
 	say_values[number](&w, index);
+	if (number == PAJURENDA_VOLUME || number == PAJURENDA_SIZE)
+		say_components(&image->bytes);
 	return end_refusal();
 }

@@ -13,8 +13,8 @@ static void say_above(const struct bytes *dump)
 	struct resource one;
 	while (next_resource(&all, &one))
 		if (one.size > 0 && one.size - 1 > UINT64_MAX - one.start) {
-			fprintf(stderr, "that of type %" PRIu64 " at %" PRIu64, one.type, one.place);
-			fprintf(stderr, " has start 0x%08" PRIX64 ", size 0x%08" PRIX64, one.start,
+			fprintf(saying(), "that of type %" PRIu64 " at %" PRIu64, one.type, one.place);
+			fprintf(saying(), " has start 0x%08" PRIX64 ", size 0x%08" PRIX64, one.start,
 				one.size);
 			return;
 		}
@@ -28,7 +28,7 @@ static void say_many(const struct bytes *dump)
 	uint64_t count = 0;
 	while (next_resource(&all, &one))
 		count++;
-	fprintf(stderr, "it has %" PRIu64, count);
+	fprintf(saying(), "it has %" PRIu64, count);
 }
 
 /* 37: how much was to be placed, and among how many ranges. */
@@ -36,7 +36,7 @@ static void say_nowhere(const struct bytes *dump, uint64_t size)
 {
 	struct map map;
 	make_map(dump, &map);
-	fprintf(stderr, "%" PRIu64 " bytes, free ranges %zu (pajurenda map shows them)", size, map.count);
+	fprintf(saying(), "%" PRIu64 " bytes, free ranges %zu (pajurenda map shows them)", size, map.count);
 }
 
 /* The list's own refusal, where its walk was refused. */
@@ -63,7 +63,7 @@ enum status refuse_memory(uint32_t number, const struct named *dump, uint64_t si
 	else if (number == PAJURENDA_MANY)
 		say_many(&dump->bytes);
 	else if (number == PAJURENDA_IMAGE)
-		fprintf(stderr, "SIZE is %" PRIu64, size);
+		fprintf(saying(), "SIZE is %" PRIu64, size);
 	else
 		say_nowhere(&dump->bytes, size);
 	return end_refusal();

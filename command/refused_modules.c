@@ -35,7 +35,7 @@ struct stretch {
 /* A number with its name before it. */
 static void say(const char *name, uint64_t value)
 {
-	fprintf(stderr, "%s %" PRIu64, name, value);
+	fprintf(saying(), "%s %" PRIu64, name, value);
 }
 
 /* ---- asking ---- */
@@ -99,10 +99,10 @@ static void say_stopped_file(const struct letters *w, const struct files *files)
 		say(" has no 24 bytes before V", w->V);
 		return;
 	}
-	fputs(": name ", stderr);
-	show_guid(stderr, w->image->at + files->file);
-	fprintf(stderr, ", attributes 0x%02" PRIX64, number_at(w->image, files->file + 19, 1));
-	fprintf(stderr, ", sum 0x%02X", sum_of_file(w->image, files->file));
+	fputs(": name ", saying());
+	show_guid(saying(), w->image->at + files->file);
+	fprintf(saying(), ", attributes 0x%02" PRIX64, number_at(w->image, files->file + 19, 1));
+	fprintf(saying(), ", sum 0x%02X", sum_of_file(w->image, files->file));
 	say(", size", number_at(w->image, files->file + 20, 3));
 	say(", V", w->V);
 }
@@ -113,10 +113,10 @@ static void say_stopped_section(const struct letters *w, const struct files *fil
 	say("section at", files->section);
 	say(" of file", files->count);
 	say(" (counted from 0) at", files->file);
-	fputs(", name ", stderr);
-	show_guid(stderr, w->image->at + files->file);
+	fputs(", name ", saying());
+	show_guid(saying(), w->image->at + files->file);
 	if (files->file_end - files->section >= 4) {
-		fprintf(stderr, ": type 0x%02" PRIX64, number_at(w->image, files->section + 3, 1));
+		fprintf(saying(), ": type 0x%02" PRIX64, number_at(w->image, files->section + 3, 1));
 		say(", size", number_at(w->image, files->section, 3));
 	}
 	say(", the file ends at", files->file_end);
@@ -129,13 +129,13 @@ static void say_held(const struct letters *w, const struct files *files, const s
 	if (found->high - found->low > 1) {
 		say("one of the modules", found->low);
 		say(" to", found->high - 1);
-		fputs(" (counted from 0)", stderr);
+		fputs(" (counted from 0)", saying());
 		return;
 	}
 	say("module", found->low);
-	fprintf(stderr, " (counted from 0), %s, file ",
+	fprintf(saying(), " (counted from 0), %s, file ",
 		number_at(w->image, held->section + 3, 1) == 0x12 ? "TE" : "PE32");
-	show_guid(stderr, w->image->at + held->file);
+	show_guid(saying(), w->image->at + held->file);
 	say(", section", held->section);
 	say(", place", held->section + 4);
 	say(", length", number_at(w->image, held->section, 3) - 4);
@@ -145,11 +145,11 @@ static void say_held(const struct letters *w, const struct files *files, const s
 static void say_marks(const struct letters *w, const struct held *held)
 {
 	const uint64_t place = held->section + 4;
-	fputs(", mark ", stderr);
+	fputs(", mark ", saying());
 	say_bytes(w->image, place, 2);
 	if (number_at(w->image, held->section + 3, 1) == 0x10) {
 		say(", e_lfanew", number_at(w->image, place + 60, 4));
-		fputs(", mark there ", stderr);
+		fputs(", mark there ", saying());
 		say_bytes(w->image, place + number_at(w->image, place + 60, 4), 4);
 	}
 	say_region(w);
@@ -164,14 +164,18 @@ static void say_patch_word(const struct asking_copy *asking)
 		return;
 	const struct stretch found = find_first(asking, w->n, refuses_entries);
 	if (found.high == 0) {
-		fputs(", by its own words", stderr);
+		fputs(", by its own words", saying());
 		return;
 	}
 	if (found.high - found.low > 1)
 		return;
+	const int64_t place = where_it_points(entry_at(w, found.low), w->image->length);
 	say(", patch entry", found.low);
-	fprintf(stderr, " (counted from 0) points to %" PRId64,
-		where_it_points(entry_at(w, found.low), w->image->length));
+	fprintf(saying(), " (counted from 0) points to %" PRId64, place);
+	if (place + 4 > (int64_t)asking->files->file_end && place < (int64_t)w->V) {
+		say(", in the free end from", asking->files->file_end);
+		say(" to V", w->V);
+	}
 }
 
 /* No module has a part in it: how far the files go, and what else no header may be in. */

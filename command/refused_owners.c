@@ -12,18 +12,18 @@ static void say_form(const struct owners *owners)
 {
 	if (owners->line != NULL)
 		return;
-	fputs("taken as bytes (it has a 0), ", stderr);
+	fputs("taken as bytes (it has a 0), ", saying());
 	say_length(&owners->list);
-	fputs(": ", stderr);
+	fputs(": ", saying());
 }
 
 /* Where a range stands: the line of a text, or its index. */
 static void say_place(const struct owners *owners, size_t index)
 {
 	if (owners->line != NULL)
-		fprintf(stderr, "line %zu", owners->line[index]);
+		fprintf(saying(), "line %zu", owners->line[index]);
 	else
-		fprintf(stderr, "range %zu (counted from 0)", index);
+		fprintf(saying(), "range %zu (counted from 0)", index);
 }
 
 /* 23: a range, and what it is held against. */
@@ -34,14 +34,14 @@ enum status refuse_range(const struct owners *owners, size_t index, uint64_t siz
 	say_rule(PAJURENDA_OWNERS);
 	say_form(owners);
 	say_place(owners, index);
-	fprintf(stderr, ": offset 0x%04" PRIX64, range.offset);
+	fprintf(saying(), ": offset 0x%04" PRIX64, range.offset);
 	if (index > 0) {
 		const struct owned before = range_at(&owners->list, index - 1);
-		fprintf(stderr, " (the one before ends at 0x%04" PRIX64 ")", before.offset + before.length);
+		fprintf(saying(), " (the one before ends at 0x%04" PRIX64 ")", before.offset + before.length);
 	}
-	fprintf(stderr, " length %" PRIu64 " owner %" PRIu64 ", ranges so far %zu", range.length,
+	fprintf(saying(), " length %" PRIu64 " owner %" PRIu64 ", ranges so far %zu", range.length,
 		range.owner, index + 1);
-	fprintf(stderr, ", the region's size z is 0x%04" PRIX64, size);
+	fprintf(saying(), ", the region's size z is 0x%04" PRIX64, size);
 	return end_refusal();
 }
 
@@ -51,7 +51,7 @@ enum status refuse_rest(const struct owners *owners)
 	begin_refusal(PAJURENDA_OWNERS, owners->name);
 	say_rule(PAJURENDA_OWNERS);
 	say_form(owners);
-	fprintf(stderr, "ranges %zu, bytes over %zu", count_ranges(&owners->list),
+	fprintf(saying(), "ranges %zu, bytes over %zu", count_ranges(&owners->list),
 		owners->list.length % PAJURENDA_RANGE_BYTES);
 	return end_refusal();
 }
@@ -61,7 +61,7 @@ enum status refuse_caller(const struct owners *owners, uint64_t owner)
 {
 	begin_refusal(PAJURENDA_OWNERS, owners->name);
 	say_rule(PAJURENDA_OWNERS);
-	fprintf(stderr, "the list is fine, --owner is %" PRIu64, owner);
+	fprintf(saying(), "the list is fine, --owner is %" PRIu64, owner);
 	return end_refusal();
 }
 
@@ -70,16 +70,16 @@ static void say_whose(const struct owners *owners, uint64_t offset)
 {
 	const size_t index = find_range(&owners->list, offset);
 	if (index == count_ranges(&owners->list)) {
-		fputs("nobody's by ", stderr);
-		say_name(owners->name);
+		fputs("nobody's by ", saying());
+		put_name(saying(), owners->name);
 		return;
 	}
 	const struct owned range = range_at(&owners->list, index);
-	fprintf(stderr, "owner %" PRIu64 "'s by ", range.owner);
-	say_name(owners->name);
-	fputs(", ", stderr);
+	fprintf(saying(), "owner %" PRIu64 "'s by ", range.owner);
+	put_name(saying(), owners->name);
+	fputs(", ", saying());
 	say_place(owners, index);
-	fprintf(stderr, ": 0x%04" PRIX64 " %" PRIu64 " %" PRIu64, range.offset, range.length,
+	fprintf(saying(), ": 0x%04" PRIX64 " %" PRIu64 " %" PRIu64, range.offset, range.length,
 		range.owner);
 }
 
@@ -89,9 +89,9 @@ enum status refuse_byte(const struct named *sheet, const struct asked *asked, ui
 {
 	begin_refusal(PAJURENDA_OWNER, sheet->name);
 	say_rule(PAJURENDA_OWNER);
-	fprintf(stderr, "entry %" PRIu64 " (counted from 0) has offset 0x%04" PRIX64 " length %" PRIu64,
+	fprintf(saying(), "entry %" PRIu64 " (counted from 0) has offset 0x%04" PRIX64 " length %" PRIu64,
 		asked->index, asked->offset, asked->length);
-	fprintf(stderr, ", owner %" PRIu64 " asks, offset 0x%04" PRIX64 " is ", owner, offset);
+	fprintf(saying(), ", owner %" PRIu64 " asks, offset 0x%04" PRIX64 " is ", owner, offset);
 	say_whose(owners, offset);
 	return end_refusal();
 }

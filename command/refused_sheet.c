@@ -48,17 +48,17 @@ static void say_row(const struct bytes *sheet, uint64_t count)
 {
 	const struct row row = first_odd(sheet, count);
 	if (row.index == count) {
-		fprintf(stderr, ", the last body ends at %" PRIu64, row.running);
+		fprintf(saying(), ", the last body ends at %" PRIu64, row.running);
 		return;
 	}
-	fprintf(stderr, ", entry %" PRIu64 " (counted from 0) ", row.index);
+	fprintf(saying(), ", entry %" PRIu64 " (counted from 0) ", row.index);
 	if (!has_bytes(sheet, 16 + 8 * row.index, 8)) {
-		fputs("is cut short", stderr);
+		fputs("is cut short", saying());
 		return;
 	}
-	fprintf(stderr, "has offset 0x%04" PRIX64 " (the one before ends at 0x%04" PRIX64 ")", row.offset,
+	fprintf(saying(), "has offset 0x%04" PRIX64 " (the one before ends at 0x%04" PRIX64 ")", row.offset,
 		row.end);
-	fprintf(stderr, ", length %" PRIu64 ", body at %" PRIu64 " (the one before ends at %" PRIu64
+	fprintf(saying(), ", length %" PRIu64 ", body at %" PRIu64 " (the one before ends at %" PRIu64
 		")", row.length, row.body, row.running);
 }
 
@@ -79,24 +79,24 @@ enum status refuse_sheet(const struct named *sheet)
 	const uint64_t count = number_at(bytes, 12, 2);
 	begin_refusal(PAJURENDA_SHEET, sheet->name);
 	say_rule(PAJURENDA_SHEET);
-	fputs("the file has ", stderr);
+	fputs("the file has ", saying());
 	say_length(bytes);
 	if (has_bytes(bytes, 0, 16)) {
-		fprintf(stderr, ", m %" PRIu64, count);
+		fprintf(saying(), ", m %" PRIu64, count);
 		say_row(bytes, count);
 	}
 	if (is_text(bytes))
-		fputs(", and it is text: sheet make makes a sheet of it", stderr);
+		fputs(", and it is text: sheet make makes a sheet of it", saying());
 	return end_refusal();
 }
 
 /* The three parts of an identity as `read` has them, and the version they make. */
 static void say_identity(const uint8_t *identity, uint64_t revision, uint64_t extended)
 {
-	show_identity(stderr, identity);
-	fprintf(stderr, " revision 0x%08" PRIX64 " extended 0x%04" PRIX64 " version ", revision,
+	show_identity(saying(), identity);
+	fprintf(saying(), " revision 0x%08" PRIX64 " extended 0x%04" PRIX64 " version ", revision,
 		extended);
-	show_image_version(stderr, revision, extended);
+	show_image_version(saying(), revision, extended);
 }
 
 /* 16: what the sheet is for, and what the image is, alike in form: the part that differs is seen. */
@@ -105,13 +105,13 @@ enum status refuse_identity(const struct named *sheet, const struct named *image
 {
 	begin_refusal(PAJURENDA_IDENTITY, sheet->name);
 	say_rule(PAJURENDA_IDENTITY);
-	fputs("the sheet is for ", stderr);
+	fputs("the sheet is for ", saying());
 	if (has_bytes(&sheet->bytes, 0, 16))
 		say_identity(sheet->bytes.at, number_at(&sheet->bytes, 8, 4),
 			     number_at(&sheet->bytes, 14, 2));
-	fputs(", ", stderr);
-	say_name(image->name);
-	fputs(" is ", stderr);
+	fputs(", ", saying());
+	put_name(saying(), image->name);
+	fputs(" is ", saying());
 	say_identity(pajurenda_identity(reading), pajurenda_field(reading, PAJURENDA_READ_REVISION),
 		     pajurenda_field(reading, PAJURENDA_READ_EXTENDED));
 	return end_refusal();
@@ -120,7 +120,7 @@ enum status refuse_identity(const struct named *sheet, const struct named *image
 /* What was asked for, and how far the settings go. */
 static enum status end_field(const struct asked *asked, uint64_t size)
 {
-	fprintf(stderr, "offset 0x%04" PRIX64 " length %" PRIu64 ", the region's size z is 0x%04" PRIX64,
+	fprintf(saying(), "offset 0x%04" PRIX64 " length %" PRIu64 ", the region's size z is 0x%04" PRIX64,
 		asked->offset, asked->length, size);
 	return end_refusal();
 }
@@ -130,7 +130,7 @@ enum status refuse_entry(const struct named *sheet, const struct asked *asked, u
 {
 	begin_refusal(PAJURENDA_FIELD, sheet->name);
 	say_rule(PAJURENDA_FIELD);
-	fprintf(stderr, "entry %" PRIu64 " (counted from 0) has ", asked->index);
+	fprintf(saying(), "entry %" PRIu64 " (counted from 0) has ", asked->index);
 	return end_field(asked, size);
 }
 

@@ -1,60 +1,108 @@
-/* release IMAGE SHEET BASE OUT: the image with a sheet's settings, moved, written in one go. */
+/* release IMAGE SHEET BASE OUT: the image with a sheet's settings, moved, written in one go with its record. */
 #include <inttypes.h>
 #include <stdbool.h>
 #include <stdio.h>
 #include <stdlib.h>
-#include <string.h>
 
-#include "changes.h"
-#include "files.h"
 #include "hex_text.h"
+#include "json.h"
+#include "json_names.h"
+#include "json_sheet.h"
 #include "messages.h"
-#include "numbers.h"
 #include "pajurenda.h"
-#include "released.h"
+#include "releasing.h"
+#include "volumes.h"
+#include "vouched.h"
 
-/* The files of a release in memory, and what is asked of them. */
-struct releasing {
-	struct named image, sheet;
-	struct owners owners;
-	struct asking asking;
-	struct base base;
-	const char *hex; /* where the text goes, or NULL */
-};
-
-/* What a release shows: the base, how far it moved, how many entries of the sheet were set, and each of them
-   with what it replaced. */
-static enum status show_release(uint64_t base, const uint8_t *answer, const struct bytes *before,
-				const struct bytes *sheet)
+/* What a release shows: the base, how far it moved, how many entries of the sheet were set, each of them with
+   what it replaced, and where that is recorded. */
+static enum status show_release(const struct releasing *r, const uint8_t *answer)
 {
+	const struct bytes *sheet = &r->sheet.bytes;
 	uint8_t judged[PAJURENDA_SHEET_BYTES] = { 0 };
 	(void)pajurenda_sheet(sheet->at, sheet->length, judged, sizeof judged);
-	printf("base 0x%08" PRIX64 "\n", base);
+	put_naming(stdout, "", &r->naming);
+	put_voucher(stdout, r->vouched);
+	printf("base 0x%08" PRIX64 "\n", r->asking.base);
 	printf("move %" PRId64 "\n", pajurenda_signed_field(answer, PAJURENDA_RELEASE_MOVE));
 	printf("entries %" PRIu64 "\n", pajurenda_field(judged, PAJURENDA_SHEET_COUNT));
-	return show_changes(before, sheet, NULL);
+	if (show_changes(&r->before, sheet, names_of(&r->naming)) != FINE)
+		return FAILED;
+	if (r->record == NULL)
+		return FINE;
+	printf("record step %zu ", r->after.count + 1);
+	put_name(stdout, r->record);
+	putchar('\n');
+	return FINE;
+}
+
+/* ---- what is written ---- */
+
+/* OUT was IMAGE: nothing has its bytes any more; of the maker's own the record can't be played again. */
+static void tell_replaced(const struct releasing *r)
+{
+	fputs("pajurenda: release: OUT is IMAGE itself: ", stderr);
+	say_name(r->image.name);
+	fputs(" as it was is replaced", stderr);
+	if (r->record != NULL && r->after.name == NULL)
+		fputs("; the record names it as the maker's image, and can be verified only with a copy of it", stderr);
+	fputc('\n', stderr);
+}
+
+/* Its document: the same, and where it went. */
+static enum status write_release(const struct releasing *r, const uint8_t *answer)
+{
+	begin_document();
+	json_text("image", r->image.name);
+	json_text("sheet", r->sheet.name);
+	json_text("owners", r->list.name);
+	json_number("owner", r->asking.owner);
+	json_text("out", r->out);
+	json_text("hex", r->hex);
+	json_text("record", r->record);
+	json_text("vouched", r->vouched);
+	json_answer(PAJURENDA_ACCEPTED, 0);
+	json_hex("base", 8, r->asking.base);
+	json_signed("move", pajurenda_signed_field(answer, PAJURENDA_RELEASE_MOVE));
+	json_naming(&r->naming);
+	const enum status status = json_entries(&r->before, &r->sheet.bytes, names_of(&r->naming));
+	end_json();
+	return status;
 }
 
 /* The released image as Intel HEX at its base, where that is asked for; false after a message. */
-static bool save_hex(const struct releasing *r)
+static bool make_text(const struct releasing *r, struct output *text)
 {
-	struct bytes text = { .at = NULL };
-	bool saved = true;
-	if (r->hex == NULL)
+	if (text->name == NULL)
 		return true;
-	const uint32_t number = make_hex(&r->image.bytes, r->asking.base, &text);
-	if (number == PAJURENDA_ACCEPTED) {
-		saved = save(r->hex, &text);
-	} else {
-		saved = false;
-		(void)(number == PAJURENDA_SHORT ? fail_no_memory(r->hex) : fail_answer());
-	}
-	free(text.at);
+	const uint32_t number = make_hex(&r->image.bytes, r->asking.base, &text->bytes);
+	if (number != PAJURENDA_ACCEPTED)
+		(void)(number == PAJURENDA_SHORT ? fail_no_memory(text->name) : fail_answer());
+	return number == PAJURENDA_ACCEPTED;
+}
+
+/* The text, the record and the image put in place together, the image last: none stands there without its record.
+   False after a message. */
+static bool save_release(const struct releasing *r)
+{
+	struct output outputs[] = { { .name = r->hex }, { .name = r->record },
+				    { .name = r->out, .bytes = r->image.bytes } };
+	const bool in_place = is_same_file(r->image.name, r->out);
+	const bool saved = make_text(r, &outputs[0]) && record_release(r, &outputs[1]) &&
+			   save_together(outputs, 3);
+	free(outputs[0].bytes.at);
+	free(outputs[1].bytes.at);
+	if (saved && in_place)
+		tell_replaced(r);
+	if (saved)
+		tell_unwalked(r->image.name, &r->before);
 	return saved;
 }
 
+/* ---- one release ---- */
+
 /* The loaded image released and saved; told beside the image as it was. */
-static enum status release_to(struct releasing *r, const struct bytes *before, const char *out)
+static enum status release_to(struct releasing *r)
 {
 	uint8_t answer[PAJURENDA_RELEASE_BYTES] = { 0 };
 	r->asking.image = &r->image;
@@ -64,30 +112,57 @@ static enum status release_to(struct releasing *r, const struct bytes *before, c
 	const uint32_t number = release_by(&r->image.bytes, &r->asking, answer);
 	if (number != PAJURENDA_ACCEPTED)
 		return refuse_release(number, &r->asking);
-	if (!save_hex(r) || !save(out, &r->image.bytes))
+	(void)pajurenda_read(r->before.at, r->before.length, r->reading, sizeof r->reading);
+	const struct named before = { .name = r->image.name, .bytes = r->before };
+	if (!load_naming(r->options, &before, r->reading, &r->naming) || !save_release(r))
 		return FAILED;
-	return show_release(r->asking.base, answer, before, &r->sheet.bytes);
+	return is_json() ? write_release(r, answer) : show_release(r, answer);
 }
 
-/* The same with a copy of the image, as it was. */
-static enum status release_copied(struct releasing *r, const char *out)
+/* The owner list, as it is for its digest and as the library takes it; false after a message. */
+static bool load_list(struct releasing *r)
 {
-	struct bytes before;
-	if (!copy_bytes(&r->image.bytes, &before))
-		return fail_no_memory(r->image.name);
-	const enum status status = release_to(r, &before, out);
-	free(before.at);
-	return status;
+	struct bytes copy;
+	if (!load(r->list.name, &r->list.bytes))
+		return false;
+	if (!copy_bytes(&r->list.bytes, &copy)) {
+		fail_no_memory(r->list.name);
+		return false;
+	}
+	return take_owners(r->list.name, &copy, &r->owners);
 }
 
-/* The three files loaded, released, and let go. */
-static enum status release_files(struct releasing *r, const char *out)
+/* IMAGE, or of a record before it the maker's image, is the one that was meant; false after a message. */
+static bool is_makers(struct releasing *r)
 {
-	enum status status = FAILED;
-	if (load(r->image.name, &r->image.bytes) && load(r->sheet.name, &r->sheet.bytes) &&
-	    load_owners(r->owners.name, &r->owners))
-		status = release_copied(r, out);
+	if (r->after.name == NULL)
+		return vouch_for("release", r->options, &r->image, &r->vouched);
+	return r->options->vendor == NULL || holds_maker(&r->after, r->options->vendor);
+}
+
+/* Every file loaded; false after a message. */
+static bool load_files(struct releasing *r)
+{
+	if ((r->after.name != NULL && !load_record(r->after.name, &r->after)) ||
+	    !load(r->image.name, &r->image.bytes) || !is_makers(r) || !load(r->sheet.name, &r->sheet.bytes) || !load_list(r))
+		return false;
+	if (!copy_bytes(&r->image.bytes, &r->before)) {
+		fail_no_memory(r->image.name);
+		return false;
+	}
+	return true;
+}
+
+/* The files loaded, released, and let go. */
+static enum status release_files(struct releasing *r)
+{
+	const enum status status = load_files(r) && follows_record(r) ? release_to(r) : FAILED;
+	end_naming(&r->naming);
 	free_owners(&r->owners);
+	free_record(&r->after);
+	free(r->vouched);
+	free(r->before.at);
+	free(r->list.bytes.at);
 	free(r->sheet.bytes.at);
 	free(r->image.bytes.at);
 	return status;
@@ -105,41 +180,20 @@ static enum status fail_unowned(const struct options *options)
 			  "setting to owner 1");
 }
 
-/* FILE is none of the inputs, and not OUT; false after a message. */
-static bool is_hex_apart(const struct releasing *r, const char *out)
-{
-	const char *input = NULL;
-	if (r->hex == NULL)
-		return true;
-	if (strcmp(r->hex, out) == 0 || is_same_file(r->hex, out))
-		input = "OUT";
-	if (is_same_file(r->hex, r->owners.name))
-		input = "LIST";
-	if (is_same_file(r->hex, r->sheet.name))
-		input = "SHEET";
-	if (is_same_file(r->hex, r->image.name))
-		input = "IMAGE";
-	if (input == NULL)
-		return true;
-	fail_usage("release", "the file for --hex is ", input, " itself, which would be lost");
-	return false;
-}
-
-/* release --owners LIST --owner N [--hex FILE] IMAGE SHEET BASE OUT */
+/* release --owners LIST --owner N [--hex FILE] [--record FILE | --no-record] [--after RECORD] IMAGE SHEET BASE OUT */
 enum status do_release(char **word, const struct options *options)
 {
-	struct releasing r = { .image = { .name = word[0] }, .sheet = { .name = word[1] },
-			       .owners = { .name = options->owners }, .hex = options->hex };
+	struct releasing r = { .options = options, .image = { .name = word[0] }, .sheet = { .name = word[1] },
+			       .list = { .name = options->owners }, .after = { .name = options->after },
+			       .out = word[3], .hex = options->hex };
 	if (options->owners == NULL || options->owner == NULL)
 		return fail_unowned(options);
 	if (!take_base("release", word[2], &r.base) ||
-	    !take_number("release", "--owner", options->owner, &r.asking.owner))
+	    !take_number("release", "--owner", options->owner, &r.asking.owner) ||
+	    !is_digest("release", options) || !name_record(&r))
 		return FAILED;
-	if (is_same_file(r.sheet.name, word[3]))
-		return fail_lost("release", "SHEET");
-	if (is_same_file(r.owners.name, word[3]))
-		return fail_lost("release", "LIST");
-	if (!is_hex_apart(&r, word[3]))
-		return FAILED;
-	return release_files(&r, word[3]);
+	const enum status status =
+		are_outputs_apart(&r) && are_outputs_free(&r) ? release_files(&r) : FAILED;
+	free(r.record);
+	return status;
 }

@@ -7,10 +7,27 @@
 #include "changes.h"
 #include "edition.h"
 #include "files.h"
+#include "json.h"
+#include "json_names.h"
 #include "messages.h"
 #include "naming.h"
 #include "numbers.h"
 #include "pajurenda.h"
+
+/* Its document. */
+static void write_setting(const struct named *image, const struct change *here, const struct naming *naming)
+{
+	begin_document();
+	json_text("image", image->name);
+	json_answer(PAJURENDA_ACCEPTED, 0);
+	json_naming(naming);
+	printf(",\n  \"setting\": {\"offset\": %" PRIu64 ", \"place\": %" PRIu64 ", \"length\": %zu, \"bytes\": ",
+	       here->offset, here->place, here->length);
+	json_bytes(here->old, here->length);
+	json_names(names_of(naming), here, "is", "bytes");
+	putchar('}');
+	end_json();
+}
 
 /* The setting's offset, place, length and bytes, as the number that they are, and by name. */
 static enum status show_setting(const struct named *image, const struct asked *asked,
@@ -19,14 +36,18 @@ static enum status show_setting(const struct named *image, const struct asked *a
 	struct change here;
 	if (!find_change(&image->bytes, asked->offset, NULL, (size_t)asked->length, &here))
 		return fail_answer();
+	here.new = here.old;
+	here.whole = true;
+	if (is_json()) {
+		write_setting(image, &here, naming);
+		return FINE;
+	}
 	put_naming(stdout, "", naming);
 	printf("offset 0x%04" PRIX64 "\nplace %" PRIu64 "\nlength %zu\nbytes", here.offset, here.place,
 	       here.length);
 	for (size_t i = 0; i < here.length; i++)
 		printf(" %02X", (unsigned)here.old[i]);
 	putchar('\n');
-	here.new = here.old;
-	here.whole = true;
 	if (here.length == 2 || here.length == 4 || here.length == 8) {
 		put_number_of(stdout, "number ", here.old, here.length);
 		putchar('\n');

@@ -51,18 +51,18 @@ static void settle_differing(struct check *check)
 }
 
 /* The audit against the vendor's image names those that are not the maker's any more. */
-static void settle_changed(struct check *check, const struct findings *from_vendor)
+static void settle_changed(struct check *check)
 {
-	const uint64_t count = differences(from_vendor);
+	const uint64_t count = differences(&check->from_vendor);
 	for (uint64_t i = 0; i < count; i++) {
-		struct settled *setting = setting_of(check, from_vendor, i);
+		struct settled *setting = setting_of(check, &check->from_vendor, i);
 		if (setting != NULL)
 			setting->changed = true;
 	}
 }
 
 /* All of it. */
-enum status settle(struct check *check, const struct findings *from_vendor)
+enum status settle(struct check *check)
 {
 	const size_t size = (size_t)pajurenda_field(check->reading, PAJURENDA_READ_SIZE);
 	check->settled = calloc(size + 1, sizeof *check->settled);
@@ -71,6 +71,6 @@ enum status settle(struct check *check, const struct findings *from_vendor)
 	for (size_t sheet = 0; sheet < check->sheet_count; sheet++)
 		settle_sheet(check, sheet);
 	settle_differing(check);
-	settle_changed(check, from_vendor);
+	settle_changed(check);
 	return FINE;
 }

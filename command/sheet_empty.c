@@ -19,7 +19,7 @@ static enum status save_empty(struct named *image, const char *out)
 	if (!move_alone(&image->bytes, pajurenda_field(reading, PAJURENDA_READ_BASE), answer))
 		return fail_answer();
 	pajurenda_empty_sheet(reading, empty);
-	return save_sheet(out, &sheet, NULL);
+	return save_sheet(out, &sheet, NULL, &image->bytes);
 }
 
 /* sheet empty IMAGE OUT */
@@ -29,7 +29,7 @@ enum status do_sheet_empty(char **word, const struct options *options)
 	(void)options;
 	if (is_same_file(image.name, word[1]))
 		return fail_lost("sheet empty", "IMAGE");
-	if (!load(image.name, &image.bytes))
+	if (!is_free(word[1]) || !load(image.name, &image.bytes))
 		return FAILED;
 	const enum status status = save_empty(&image, word[1]);
 	free(image.bytes.at);

@@ -4,11 +4,14 @@
 #include <stdlib.h>
 #include <string.h>
 
+#include "edition.h"
 #include "files.h"
 #include "folding.h"
+#include "json.h"
 #include "letters.h"
 #include "messages.h"
 #include "sheets.h"
+#include "signs.h"
 
 /* The four bytes before each sheet of a pile, its length. */
 #define LENGTH_BYTES ((size_t)4)
@@ -71,7 +74,7 @@ static bool load_names(struct folding *folding, const struct options *options)
 		return true;
 	if (!load(options->image, image))
 		return false;
-	const uint32_t number = pajurenda_read(image->at, image->length, reading, sizeof reading);
+	const uint32_t number = read_newer(image, reading);
 	if (number == PAJURENDA_ACCEPTED)
 		return load_naming(options, &folding->image, reading, &folding->naming);
 	(void)refuse_image(number, pajurenda_field(reading, PAJURENDA_READ_INDEX), &folding->image);
@@ -92,12 +95,30 @@ static void end_folding(struct folding *folding)
 
 /* ---- folded ---- */
 
+/* How many bytes are set. */
+static uint64_t count_set(const struct folding *folding)
+{
+	const uint64_t entries = number_at(&folding->folded, 12, 2);
+	return folding->folded.length - PAJURENDA_EMPTY_SHEET - PAJURENDA_ENTRY_BYTES * entries;
+}
+
+/* In a document: that, and the sheets in their order. */
+static void write_folded(const struct folding *folding)
+{
+	json_number("bytes", count_set(folding));
+	fputs(",\n  \"sheets\": [", stdout);
+	for (size_t i = 0; i < folding->count; i++) {
+		fputs(i == 0 ? "\n    {\"file\": " : ",\n    {\"file\": ", stdout);
+		put_json_text(stdout, folding->sheets[i].name);
+		printf(", \"entries\": %" PRIu64 "}", number_at(&folding->sheets[i].bytes, 12, 2));
+	}
+	fputs("\n  ]", stdout);
+}
+
 /* The sheets by their numbers, and how many bytes are set. */
 static void show_folded(const struct folding *folding)
 {
-	const uint64_t entries = number_at(&folding->folded, 12, 2);
-	printf("bytes %" PRIu64 "\n",
-	       folding->folded.length - PAJURENDA_EMPTY_SHEET - PAJURENDA_ENTRY_BYTES * entries);
+	printf("bytes %" PRIu64 "\n", count_set(folding));
 	for (size_t i = 0; i < folding->count; i++) {
 		printf("sheet %zu entries %" PRIu64 " ", i + 1,
 		       number_at(&folding->sheets[i].bytes, 12, 2));
@@ -112,11 +133,16 @@ static enum status save_folded(struct folding *folding, const char *out)
 	const uint32_t number = fold_some(folding, 0, folding->count);
 	if (number != PAJURENDA_ACCEPTED)
 		return refuse_fold(folding, number);
-	const enum status status = save_sheet(out, &folding->folded, &folding->naming);
-	if (status != FINE)
-		return status;
-	show_folded(folding);
-	return show_over(folding);
+	if (save_open_sheet(out, &folding->folded, &folding->naming, NULL) != FINE)
+		return FAILED;
+	if (!is_json()) {
+		show_folded(folding);
+		return show_over(folding);
+	}
+	write_folded(folding);
+	const enum status status = show_over(folding);
+	end_json();
+	return status;
 }
 
 /* sheet fold [--names FILE --image IMAGE] SHEET.. OUT */
@@ -134,6 +160,10 @@ enum status do_sheet_fold(char **word, const struct options *options)
 			return fail_lost("sheet fold", "SHEET");
 	if (options->image != NULL && is_same_file(options->image, out))
 		return fail_lost("sheet fold", "IMAGE");
+	if (options->names != NULL && is_same_file(options->names, out))
+		return fail_lost("sheet fold", "the file of names");
+	if (!is_free(out))
+		return FAILED;
 	const enum status status =
 		load_sheets(&folding, word) && load_names(&folding, options) ? save_folded(&folding, out) : FAILED;
 	end_folding(&folding);

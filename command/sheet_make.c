@@ -11,6 +11,7 @@
 #include "changes.h"
 #include "edition.h"
 #include "files.h"
+#include "json.h"
 #include "making.h"
 #include "messages.h"
 #include "show.h"
@@ -27,17 +28,17 @@ static enum status refuse_last(uint32_t number, const struct making *m)
 	if (number != PAJURENDA_SHEET && number != PAJURENDA_FIELD)
 		return fail_answer();
 	begin_line_refusal(number, &m->text);
-	fputs("offset ", stderr);
-	show_offset(stderr, last->offset);
+	fputs("offset ", saying());
+	show_offset(saying(), last->offset);
 	if (number == PAJURENDA_FIELD) {
-		fprintf(stderr, " length %zu, the region's size z is ", last->length);
-		show_offset(stderr, pajurenda_field(m->reading, PAJURENDA_READ_SIZE));
+		fprintf(saying(), " length %zu, the region's size z is ", last->length);
+		show_offset(saying(), pajurenda_field(m->reading, PAJURENDA_READ_SIZE));
 		return end_refusal();
 	}
-	fputs(" (the one before ends at ", stderr);
-	show_offset(stderr, before->offset + before->length);
-	fprintf(stderr, ") length %zu, ", last->length);
-	fprintf(stderr, "entries so far %zu, bytes %zu", draft->count,
+	fputs(" (the one before ends at ", saying());
+	show_offset(saying(), before->offset + before->length);
+	fprintf(saying(), ") length %zu, ", last->length);
+	fprintf(saying(), "entries so far %zu, bytes %zu", draft->count,
 		lay_out(m->draft).length);
 	return end_refusal();
 }
@@ -86,9 +87,9 @@ static enum status save_made(struct making *m, const char *out)
 	const struct named made = { .name = out, .bytes = lay_out(m->draft) };
 	if (ask(m) != PAJURENDA_ACCEPTED)
 		return fail_answer();
-	if (save_sheet(out, &made.bytes, m->naming) != FINE)
+	if (save_sheet(out, &made.bytes, m->naming, &m->image.bytes) != FINE)
 		return FAILED;
-	return show_changes(&m->image.bytes, &made.bytes, names_of(m->naming));
+	return is_json() ? FINE : show_changes(&m->image.bytes, &made.bytes, names_of(m->naming));
 }
 
 /* All lines, and the whole sheet once more before it is saved. */
@@ -138,7 +139,7 @@ enum status do_sheet_make(char **word, const struct options *options)
 		return fail_lost("sheet make", "TEXT");
 	if (options->names != NULL && is_same_file(options->names, word[2]))
 		return fail_lost("sheet make", "the file of names");
-	if (!load(m.image.name, &m.image.bytes))
+	if (!is_free(word[2]) || !load(m.image.name, &m.image.bytes))
 		return FAILED;
 	const enum status status =
 		load_text(text.name, &text.bytes) ? make_of(&m, &text, word[2], options) : FAILED;

@@ -32,11 +32,11 @@ const struct part *find_part(const char *line)
 /* A part as it is written, by the first 16 bytes of a sheet. */
 static void say_part(const struct part *part, const uint8_t *head)
 {
-	fprintf(stderr, "%s ", part->name);
+	fprintf(saying(), "%s ", part->name);
 	if (part->width == 8)
-		show_identity(stderr, head + part->at);
+		show_identity(saying(), head + part->at);
 	else
-		fprintf(stderr, "0x%0*" PRIX64, (int)(2 * part->width),
+		fprintf(saying(), "0x%0*" PRIX64, (int)(2 * part->width),
 			pajurenda_number(head + part->at, part->width));
 }
 
@@ -47,9 +47,9 @@ static enum status refuse_part(const struct making *m, const struct part *part)
 	pajurenda_empty_sheet(m->reading, own);
 	begin_line_refusal(PAJURENDA_IDENTITY, &m->text);
 	say_part(part, m->draft->head);
-	fputs(", ", stderr);
-	say_name(m->image.name);
-	fputs(" has ", stderr);
+	fputs(", ", saying());
+	put_name(saying(), m->image.name);
+	fputs(" has ", saying());
 	say_part(part, own);
 	return end_refusal();
 }
@@ -90,7 +90,10 @@ static char *pass_text(char *rest, const uint8_t *identity)
 /* A line that names a part: its value and no word more, and the library takes it. */
 enum status take_part(struct making *m, const struct part *part, char *rest)
 {
+	const unsigned own = 1U << (part - parts);
 	(void)next_word(&rest);
+	if ((m->parts & own) != 0)
+		return fail_word(&m->text, "", part->name, "is named twice");
 	const char *word = next_word(&rest);
 	if (word == NULL)
 		return fail_line(&m->text, "a value is missing after the name");
@@ -102,7 +105,7 @@ enum status take_part(struct making *m, const struct part *part, char *rest)
 	if (word != NULL)
 		return fail_word(&m->text, "", word, "is one word too many");
 	const uint32_t number = ask(m);
-	m->parts |= 1U << (part - parts);
+	m->parts |= own;
 	if (number == PAJURENDA_IDENTITY)
 		return refuse_part(m, part);
 	return number == PAJURENDA_ACCEPTED ? FINE : fail_answer();

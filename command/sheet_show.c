@@ -8,6 +8,7 @@
 #include "files.h"
 #include "json.h"
 #include "json_names.h"
+#include "json_sheet.h"
 #include "letters.h"
 #include "messages.h"
 #include "naming.h"
@@ -33,20 +34,10 @@ struct taken {
 /* An entry of a sheet that the library has taken; false where the answer can't be the library's. */
 static bool take_entry(struct showing *showing, uint64_t index, struct taken *taken)
 {
-	const struct bytes *sheet = &showing->sheet.bytes;
-	const uint64_t at = PAJURENDA_EMPTY_SHEET + PAJURENDA_ENTRY_BYTES * index;
-	const uint64_t body = number_at(sheet, at + 6, 2);
 	taken->index = index;
-	taken->change = (struct change){ .offset = number_at(sheet, at, 4),
-					 .length = (size_t)number_at(sheet, at + 4, 2) };
-	if (!has_bytes(sheet, body, taken->change.length))
+	if (!take_change(showing->beside ? &showing->image.bytes : NULL, &showing->sheet.bytes, index, &taken->change))
 		return false;
-	taken->change.new = sheet->at + body;
-	if (!showing->beside)
-		return true;
-	if (!entry_change(&showing->image.bytes, sheet, index, &taken->change))
-		return false;
-	showing->changing += count_changed(&taken->change) != 0;
+	showing->changing += showing->beside && count_changed(&taken->change) != 0;
 	return true;
 }
 
@@ -103,40 +94,15 @@ static enum status show_text_of(struct showing *showing, const uint8_t *judged)
 
 /* ---- as a document ---- */
 
-/* An entry's object; where there is an image its place there, what it replaces, and its names. */
-static void write_entry(const struct showing *showing, const struct taken *taken)
-{
-	const struct change *change = &taken->change;
-	printf("%s\n    {\"offset\": %" PRIu64 ", \"length\": %zu, \"bytes\": ",
-	       taken->index == 0 ? "" : ",", change->offset, change->length);
-	json_bytes(change->new, change->length);
-	if (change->old != NULL) {
-		fputs(", \"replaces\": ", stdout);
-		json_bytes(change->old, change->length);
-		printf(", \"changes\": %" PRIu64 ", \"place\": %" PRIu64, count_changed(change),
-		       change->place);
-		json_names(names_of(&showing->naming), change, "replaces", "bytes");
-	}
-	putchar('}');
-}
-
 /* What an accepted sheet has. */
-static enum status write_judged(struct showing *showing, const uint8_t *judged)
+static enum status write_judged(const struct showing *showing, const uint8_t *judged)
 {
-	const uint64_t count = pajurenda_field(judged, PAJURENDA_SHEET_COUNT);
-	struct taken taken;
 	json_parts(pajurenda_sheet_identity(judged), pajurenda_field(judged, PAJURENDA_SHEET_REVISION),
 		   pajurenda_field(judged, PAJURENDA_SHEET_EXTENDED));
 	json_number("length", showing->sheet.bytes.length);
 	json_naming(&showing->naming);
-	fputs(",\n  \"entries\": [", stdout);
-	for (uint64_t i = 0; i < count && ferror(stdout) == 0; i++) {
-		if (!take_entry(showing, i, &taken))
-			return fail_answer();
-		write_entry(showing, &taken);
-	}
-	printf("%s]", count == 0 ? "" : "\n  ");
-	return FINE;
+	return json_entries(showing->beside ? &showing->image.bytes : NULL, &showing->sheet.bytes,
+			    names_of(&showing->naming));
 }
 
 /* The whole document, of a refused sheet too. */
@@ -207,10 +173,12 @@ static enum status show_sheet(struct showing *showing, const struct options *opt
 	keep_refusals(json);
 	if (!name_settings(showing, number, options))
 		return FAILED;
+	if (number != PAJURENDA_ACCEPTED)
+		(void)refuse_shown(showing, number, base);
 	if (json && number != PAJURENDA_SHORT && write_sheet(showing, number, judged) != FINE)
 		return FAILED;
 	if (number != PAJURENDA_ACCEPTED)
-		return refuse_shown(showing, number, base);
+		return FAILED;
 	return json ? FINE : show_text_of(showing, judged);
 }
 

@@ -10,6 +10,9 @@
 #include "changes.h"
 #include "edition.h"
 #include "files.h"
+#include "json.h"
+#include "json_names.h"
+#include "json_sheet.h"
 #include "messages.h"
 #include "naming.h"
 #include "pajurenda.h"
@@ -81,6 +84,17 @@ static void put_text(FILE *to, const struct naming *naming, const uint8_t *readi
 			    pajurenda_field(reading, PAJURENDA_READ_REGION));
 }
 
+/* Its document. */
+static void write_started(const struct naming *naming, const uint8_t *reading, const char *out)
+{
+	begin_document();
+	json_text("out", out);
+	json_answer(PAJURENDA_ACCEPTED, 0);
+	json_bound(reading);
+	json_naming(naming);
+	end_json();
+}
+
 /* The text in memory, then in its place. */
 static enum status save_text(const struct naming *naming, const uint8_t *reading, const char *out)
 {
@@ -96,7 +110,9 @@ static enum status save_text(const struct naming *naming, const uint8_t *reading
 	if (status == FINE && !save(out, &text))
 		status = FAILED;
 	free(at);
-	if (status == FINE)
+	if (status == FINE && is_json())
+		write_started(naming, reading, out);
+	else if (status == FINE)
 		put_naming(stdout, "", naming);
 	return status;
 }

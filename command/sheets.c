@@ -6,6 +6,9 @@
 #include <string.h>
 
 #include "files.h"
+#include "json.h"
+#include "json_names.h"
+#include "json_sheet.h"
 #include "messages.h"
 #include "released.h"
 #include "show.h"
@@ -70,21 +73,51 @@ void show_head(const uint8_t *judged, const char *before)
 		   pajurenda_field(judged, PAJURENDA_SHEET_EXTENDED), before);
 }
 
+/* Its document, up to its end: what the sheet is for, and each entry with what it replaces. */
+static enum status write_sheet(const char *out, const struct bytes *sheet, const uint8_t *judged,
+			       const struct naming *naming, const struct bytes *image)
+{
+	begin_document();
+	json_text("out", out);
+	json_answer(PAJURENDA_ACCEPTED, 0);
+	json_parts(pajurenda_sheet_identity(judged), pajurenda_field(judged, PAJURENDA_SHEET_REVISION),
+		   pajurenda_field(judged, PAJURENDA_SHEET_EXTENDED));
+	json_number("length", sheet->length);
+	if (naming != NULL)
+		json_naming(naming);
+	else
+		json_text("names", NULL);
+	return json_entries(image, sheet, naming == NULL ? NULL : names_of(naming));
+}
+
 /* A sheet that the library has accepted for its image, written and told; names, where there are some,
-   first. */
-enum status save_sheet(const char *out, const struct bytes *sheet, const struct naming *naming)
+   first. A document can go on. */
+enum status save_open_sheet(const char *out, const struct bytes *sheet, const struct naming *naming,
+			    const struct bytes *image)
 {
 	uint8_t judged[PAJURENDA_SHEET_BYTES] = { 0 };
 	if (pajurenda_sheet(sheet->at, sheet->length, judged, sizeof judged) != PAJURENDA_ACCEPTED)
 		return fail_answer();
 	if (!save(out, sheet))
 		return FAILED;
+	if (is_json())
+		return write_sheet(out, sheet, judged, naming, image);
 	if (naming != NULL)
 		put_naming(stdout, "", naming);
 	show_head(judged, "\nversion ");
 	printf("entries %" PRIu64 "\n", pajurenda_field(judged, PAJURENDA_SHEET_COUNT));
 	printf("length %zu\n", sheet->length);
 	return FINE;
+}
+
+/* The same, and nothing more. */
+enum status save_sheet(const char *out, const struct bytes *sheet, const struct naming *naming,
+		       const struct bytes *image)
+{
+	const enum status status = save_open_sheet(out, sheet, naming, image);
+	if (status == FINE && is_json())
+		end_json();
+	return status;
 }
 
 /* An image moved with its empty sheet, by an answer of PAJURENDA_RELEASE_BYTES; false where the library

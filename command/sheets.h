@@ -36,7 +36,10 @@ bool add_byte(struct draft *draft, uint8_t byte);
 void put_number(uint8_t *at, size_t width, uint64_t value);
 struct bytes lay_out(struct draft *draft);
 void show_head(const uint8_t *judged, const char *before);
-enum status save_sheet(const char *out, const struct bytes *sheet, const struct naming *naming);
+enum status save_open_sheet(const char *out, const struct bytes *sheet, const struct naming *naming,
+			    const struct bytes *image);
+enum status save_sheet(const char *out, const struct bytes *sheet, const struct naming *naming,
+		       const struct bytes *image);
 bool move_alone(struct bytes *image, uint64_t base, uint8_t *answer);
 
 #endif

@@ -62,6 +62,28 @@ static void put_page_sign(FILE *to, uint32_t sign)
 		fputc((int)sign, to);
 }
 
+/* A text from outside in a page's title, where there are no tags: what shows nothing is a question mark. */
+void put_title_text(FILE *to, const char *text)
+{
+	uint32_t sign = 0;
+	while (*text != 0) {
+		text += take_sign(text, &sign);
+		put_page_sign(to, is_hidden(sign) ? '?' : sign);
+	}
+}
+
+/* A text from outside as a string in a style, in quotes: every sign by its number. */
+void put_style_text(FILE *to, const char *text)
+{
+	uint32_t sign = 0;
+	fputc('"', to);
+	while (*text != 0) {
+		text += take_sign(text, &sign);
+		fprintf(to, "\\%06X", (unsigned)(is_hidden(sign) ? '?' : sign));
+	}
+	fputc('"', to);
+}
+
 /* A text from outside in a page's text; never inside a tag. */
 void put_page_text(FILE *to, const char *text)
 {

@@ -12,6 +12,8 @@
 
 size_t take_sign(const char *text, uint32_t *sign);
 bool is_hidden(uint32_t sign);
+void put_title_text(FILE *to, const char *text);
+void put_style_text(FILE *to, const char *text);
 void put_page_text(FILE *to, const char *text);
 void put_json_text(FILE *to, const char *text);
 

@@ -16,8 +16,8 @@
 
 #define BLANKS " \t"
 
-/* How much of a word is shown, and the longest number that is looked at. */
-#define MOST_SHOWN 40
+/* The longest number that is looked at. */
+#define MOST_NUMBER 40
 
 /* ---- the file ---- */
 
@@ -115,11 +115,9 @@ enum status fail_line(const struct text *text, const char *fault)
 /* A word in quotes after its name, which may be empty; of a long one its start. */
 void say_word(const char *name, const char *word)
 {
-	char shown[MOST_SHOWN + 1] = "";
-	strncat(shown, word, MOST_SHOWN);
 	fprintf(stderr, "%s%s\"", name, *name == 0 ? "" : " ");
-	say_name(shown);
-	fputs(strlen(word) > MOST_SHOWN ? "..\" " : "\" ", stderr);
+	put_start(stderr, word);
+	fputs("\" ", stderr);
 }
 
 /* What is wrong with a word of it. */
@@ -143,7 +141,7 @@ bool take_field(const struct text *text, const struct field *field, const char *
 	say_word(field->name, word);
 	if (number != NO_NUMBER)
 		fprintf(stderr, "does not fit %u bits", field->bits);
-	else if (strlen(word) > MOST_SHOWN)
+	else if (strlen(word) > MOST_NUMBER)
 		fputs("is not a number", stderr);
 	else
 		say_how(word, field->other);

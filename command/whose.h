@@ -5,6 +5,7 @@
 #include "owners.h"
 
 void show_region(const uint8_t *reading, const char *before);
+void write_shares(const struct bytes *list, const uint8_t *reading);
 void show_shares(const struct bytes *list, const uint8_t *reading, const char *before);
 
 #endif

@@ -66,11 +66,12 @@ try_right_way() {
 		[ "$(sed -n 6,7p "$work/out")" = "S $at..$at length 1 region offset $offset; $relay 01 Enabled -> 00 Disabled
 verdict explained" ] || fail "the audit tells otherwise"
 		works 0 verify --must "$image.must" --names "$image.bsf" --report page "$image" sheet shipped
-		prints "names 3 of $image.bsf" 'verdict as released, as required' "must base 0x00512000, is 0x00512000, maker's 0xFFF80000: held" \
+		steady
+		prints "names 3 of $image.bsf" 'verdict as released, as required, owners not checked' "must base 0x00512000, is 0x00512000, maker's 0xFFF80000: held" \
 			"must $offset at $at $relay 00 Disabled, is 00 Disabled, maker's 01 Enabled: held" 'base 0x00512000' 'move -4289126400' 'sheet 1 entries 1 sheet' \
-			"set $offset at $at: 01 -> 00; $relay 01 Enabled -> 00 Disabled" 'settings 0' 'strays 0' 'bits 0'
+			"set $offset at $at: 01 -> 00; $relay 01 Enabled -> 00 Disabled" "settings 0 $of_release" 'strays 0' 'bits 0'
 		page_of page
-		page_says 'title Verify: as released, as required' 'verdict as released, as required (good)' 'needs Base|0x00512000|0x00512000|0xFFF80000|held' \
+		page_says 'title Verify: as released, as required, owners not checked' 'verdict as released, as required, owners not checked (open)' 'needs Base|0x00512000|0x00512000|0xFFF80000|held' \
 			"needs $offset at $at gTreatTokenSpaceGuid_BypassRelay “Bypass relay at restart”|00 Disabled|00 Disabled|01 Enabled|held" \
 			"naming names 3 of $image.bsf" "entries 0|$offset at $at $relay 01 Enabled -> 00 Disabled|1|00|01|as set"
 	done
@@ -122,18 +123,19 @@ $unchecked" ] || fail "the audit seems to have checked it"
 	page_says 'entries 0|0x0128 at 4392|1|00|00|changes nothing' "because Byte for byte, the shipped file is what releasing the maker's image with the sheets \
 below, in their order, to its base makes. 1 of 1 entry changes nothing: the maker's image has these bytes already."
 	works 1 verify --must B.must --report page B sheet shipped
-	prints 'verdict as released, not as required' "must base 0x00512000, is 0x00512000, maker's 0xFFF80000: held" \
+	steady
+	prints 'verdict as released, not as required, owners not checked' "must base 0x00512000, is 0x00512000, maker's 0xFFF80000: held" \
 		"must 0x012C at 4396 00, is 01, maker's 01: not held" 'base 0x00512000' 'move -4289126400' 'sheet 1 entries 1 sheet' \
-		'set 0x0128 at 4392: 00, changes nothing' 'settings 0' 'strays 0' 'bits 0'
+		'set 0x0128 at 4392: 00, changes nothing' "settings 0 $of_release" 'strays 0' 'bits 0'
 	page_of page
-	page_says 'title Verify: as released, not as required' 'verdict as released, not as required (bad)' 'needs 0x012C at 4396|00|01|01|not held'
+	page_says 'title Verify: as released, not as required, owners not checked' 'verdict as released, not as required, owners not checked (bad)' 'needs 0x012C at 4396|00|01|01|not held'
 	works 1 audit --must B.must --names B.bsf B shipped
 	[ "$(tail -n 2 "$work/out")" = "must 0x012C at 4396 $relay 00 Disabled, is 01 Enabled, maker's 01 Enabled: not held
 verdict explained, not as required" ] || fail "the audit tells otherwise"
 	printf 'B sheet shipped\n' >pairs
 	works 1 verify --must B.must --list pairs
 	prints 'line 1 as released, not as required base 0x00512000 settings 0 strays 0 bits 0 B sheet shipped' \
-		'pairs 1 as released 1 not as released 0 not as required 1 refused 0 failed 0'
+		'pairs 1 as released 1 not as released 0 not as required 1 refused 0 failed 0' "$unowned"
 	printf 'B shipped\n' >pairs
 	works 1 audit --must B.must --list pairs
 	prints 'line 1 explained, not as required base 0x00512000 settings 0 strays 0 bits 0 B shipped' \

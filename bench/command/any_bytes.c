@@ -10,6 +10,7 @@
 #include "owners.h"
 #include "pajurenda.h"
 #include "refusals.h"
+#include "../second/sha256.h"
 #include "../make/drawn.h"
 
 /* A byte at an edge, or any. */
@@ -19,6 +20,14 @@ static uint8_t draw_byte(void)
 	return below(2) == 0 ? edges[below(sizeof edges)] : (uint8_t)below(256);
 }
 
+/* The digest that goes with a file that is read, by the second reader. */
+uint32_t pajurenda_sha256(const uint8_t *bytes, size_t length, uint8_t *answer, size_t answer_length)
+{
+	(void)answer_length;
+	second_sha256(bytes, length, answer);
+	return PAJURENDA_ACCEPTED;
+}
+
 /* Stands in for the library, which 25 to 27 ask about copies of the file: any answer. */
 uint32_t pajurenda_read(const uint8_t *image, size_t length, uint8_t *answer, size_t answer_length)
 {
@@ -26,6 +35,15 @@ uint32_t pajurenda_read(const uint8_t *image, size_t length, uint8_t *answer, si
 	(void)answer;
 	(void)answer_length;
 	return (uint32_t)(below(2) == 0 ? 25 + below(3) : image[0]);
+}
+
+/* The same for the call that tells 28 of an image that reads. */
+uint32_t pajurenda_setting(const uint8_t *image, size_t length, uint64_t offset, uint64_t size, uint8_t *answer,
+			   size_t answer_length)
+{
+	(void)offset;
+	(void)size;
+	return pajurenda_read(image, length, answer, answer_length);
 }
 
 /* The image cut somewhere and changed here and there, or random bytes of any small length. */
@@ -71,7 +89,8 @@ static void refuse_all(const struct named *file, const struct named *other)
 	refuse_lists(file, other, &asked);
 	refuse_setting(file, &asked, below(65537));
 	refuse_new_base(file, below(UINT64_MAX));
-	refuse_shipped_base(file, below(below(2) == 0 ? 300 : UINT64_MAX));
+	begin_shipped_base(file, below(below(2) == 0 ? 300 : UINT64_MAX));
+	(void)end_refusal();
 	refuse_pair(file, other);
 }
 

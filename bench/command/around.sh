@@ -45,7 +45,8 @@ try_any_bytes() {
 	"${CC:-cc}" -std=c11 -Wall -Wextra -Wconversion -Werror $checked -I"$root/include" -I"$root/command" "$here/any_bytes.c" "$root/bench/make/drawn.c" \
 		"$root/command/refusals.c" "$root/command/refused_image.c" "$root/command/refused_modules.c" "$root/command/modules.c" "$root/command/refused_sheet.c" "$root/command/refused_handoff.c" \
 		"$root/command/refused_owners.c" "$root/command/owners.c" "$root/command/files.c" "$root/command/text.c" "$root/command/numbers.c" \
-		"$root/command/letters.c" "$root/command/show.c" "$root/command/messages.c" -o "$work/any_bytes" || fail "it does not compile"
+		"$root/command/letters.c" "$root/command/components.c" "$root/command/edition.c" "$root/command/show.c" "$root/command/messages.c" "$root/command/signs.c" \
+		"$root/command/inputs.c" "$root/command/digest.c" "$root/bench/second/sha256.c" -o "$work/any_bytes" || fail "it does not compile"
 	for image in "$vendor" "$root/crates/run_more/data/1/vendor.bin"; do
 		"$work/any_bytes" "$image" "$seed" 3000 2>"$work/err" || fail "ended with $?"
 		passed

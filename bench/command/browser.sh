@@ -1,6 +1,7 @@
 # shellcheck shell=sh disable=SC2034,SC2154,SC2162,SC2164
-# The page in a real browser, Debian's chromium, with no network: at a laptop's and at a phone's width it must say what it says and nothing may
-# stick out; on A4 too. PAJURENDA_PICTURES names a folder that gets the pictures of the two samples; PAJURENDA_BROWSER=no leaves all this out.
+# The page in a real browser, Debian's chromium, with no network: at a laptop's and at a phone's width, and with modules at two between them, it must
+# say what it says and nothing may stick out; on A4 too, where the signature never stands alone and every sheet has the page's name and its number. PAJURENDA_PICTURES names a folder that gets the pictures of the two samples, docs where those there are of
+# another version; PAJURENDA_BROWSER=no leaves all this out.
 
 # the words that start the browser without a network, in browser; none where there is none
 find_browser() {
@@ -45,6 +46,7 @@ for (const map of document.querySelectorAll(".map"))
 	}
 const word = document.querySelector(".word"), style = getComputedStyle(word);
 say("word", word.innerText + " " + (parseFloat(style.fontSize) >= 26 ? "large" : "small"));
+for (const path of document.querySelectorAll(".path")) path.remove();
 for (const row of document.querySelectorAll(".ranges tbody tr, .files tbody tr, .entries tbody tr, .needs tbody tr"))
 	say("row", Array.from(row.cells).map(cell => cell.innerText.replace(/\s+/g, " ")).join("|"));
 parent.postMessage(lines.join("\n"), "*");
@@ -106,10 +108,19 @@ printed() {
 count = 0
 for box in re.findall(r"<word xMin=\"([^\"]*)\" yMin=\"([^\"]*)\" xMax=\"([^\"]*)\" yMax=\"([^\"]*)\"", open(sys.argv[1], encoding="utf-8").read()):
     left, top, right, bottom = map(float, box)
-    assert left >= 40 and right <= 595 - 40 and top >= 40 and bottom <= 842 - 40, box
+    assert left >= 40 and right <= 595 - 40 and top >= 40 and bottom <= 842 - 20, box
     count += 1
 assert count > 100, count' "$work/print.words" 2>"$work/err" || fail "a word beyond the margins"
 	pdftotext -layout "$work/print.pdf" "$work/print.text"
+	"$python" -I -S -c 'import sys
+sheets = open(sys.argv[1], encoding="utf-8").read().split("\f")[:-1]
+for number, sheet in enumerate(sheets):
+    assert "Page %d of %d" % (number + 1, len(sheets)) in sheet and "page.html" in sheet, "no foot on sheet %d" % (number + 1)
+signed = [number for number, sheet in enumerate(sheets) if "Signature" in sheet]
+assert len(signed) == 1 and "SHA-256" in sheets[signed[0]], "the signature stands alone"
+assert signed[0] + 1 < len(sheets) and "Map of the image" in sheets[signed[0] + 1], "what is behind it is not behind it"
+assert signed[0] == 0 or sys.argv[2] == "many", "the signature is on sheet %d" % (signed[0] + 1)' "$work/print.text" "$name" 2>"$work/err" || fail "the sheets"
+	passed
 	sed -n 's/^ranges [^|]*|\([^|]*\)|.*/\1/p; s/^file [^|]*|[^|]*|[^|]*|\([0-9a-f]\{30\}\)[0-9a-f]*$/\1/p' "$work/page" >"$work/wanted"
 	[ -s "$work/wanted" ] || fail "nothing to look for"
 	while read -r word; do
@@ -118,13 +129,19 @@ assert count > 100, count' "$work/print.words" 2>"$work/err" || fail "a word bey
 	done <"$work/wanted"
 }
 
-# opened NAME STATUS WORDS..: the page of a check, without its date, at both widths and on paper
+# calmed PAGE: without what is another on every machine and in every run: date, user, host, folder, command
+calmed() {
+	sed "s|<time>[^<]*</time> by [^<]*, with|<time>2026-01-01 00:00:00 UTC</time> by inspector (1000) on bench, with|; s|$(pwd -P)/|/home/inspector/june/|g; s|$command |pajurenda |" "$1"
+}
+
+# opened NAME WIDTHS STATUS WORDS..: the page of a check at these widths and on paper
 opened() {
 	name=$1
-	shift
+	widths=$2
+	shift 2
 	works "$@" --report page.html --text whole
-	sed 's|<time>[^<]*</time>|<time>2026-01-01 00:00:00 UTC</time>|' "$work/see/page.html" >"$work/see/$name.html"
-	for wide in 390 1280; do
+	calmed page.html >"$name.html"
+	for wide in $widths; do
 		shown "$work/see/$name.html" "$wide" "$work/see/whole"
 		picture_of "$work/see/$name.html" "$wide" "$work/see/$name-$wide.png"
 	done
@@ -138,28 +155,41 @@ try_browser() {
 	cp "$shipped" shipped.bin
 	cp "$i/one.sheet" june.sheet
 	cp "$i/two.sheet" july.sheet
-	opened unexplained 1 audit vendor.bin shipped.bin
+	opened unexplained '390 1280' 1 audit vendor.bin shipped.bin
 	cp "$root/crates/run_explained/data/shipped.bin" shipped.bin
-	opened explained 0 audit vendor.bin shipped.bin
+	opened explained '390 1280' 0 audit vendor.bin shipped.bin
 	changed "$vendor" older.bin 111 1 104 60
-	opened older 1 audit older.bin shipped.bin
+	opened older '390 1280' 1 audit older.bin shipped.bin
 	cp "$i/released" shipped.bin
 	flip shipped.bin 4197 4198
 	flip shipped.bin 4300 4340
 	flip shipped.bin 6000 6100
-	opened not-as-released 1 verify vendor.bin june.sheet july.sheet shipped.bin
+	opened not-as-released '390 1280' 1 verify vendor.bin june.sheet july.sheet shipped.bin
 	cp "$work/accident/A.bsf" "$work/accident/B.must" "$work/accident/B" .
 	cp "$work/accident/shipped" shipped.bin
 	cp "$work/accident/sheet" june.sheet
-	opened not-as-required 1 verify --names A.bsf --must B.must B june.sheet shipped.bin
+	opened not-as-required '390 1280' 1 verify --names A.bsf --must B.must B june.sheet shipped.bin
 	cp "$root/crates/run_short/data/vendor.bin" "a <name> that is long enough to need two lines on a phone, and one without any blank: $(printf '%080d' 7).bin"
 	cp "$root/crates/run_short/data/shipped.bin" shipped.bin
-	opened many 1 audit a*.bin shipped.bin
+	opened many '390 1280' 1 audit a*.bin shipped.bin
+	if [ -f "$i/three.moved" ]; then
+		cp "$i/three" "$i/three.sheet" .
+		cp "$i/three.moved" moved.bin
+		for part in '290 320' '430 446' '630 636' '866 873' '1458 1470'; do
+			# shellcheck disable=SC2086
+			flip moved.bin $part
+		done
+		opened modules '390 800 1024 1280' 1 audit three moved.bin
+		opened modules-verified '390 800 1024 1280' 1 verify three three.sheet moved.bin
+	fi
+	browsed='; the page opened in a browser'
+	if [ "$(cat "$root/docs/report.version" 2>/dev/null)" != "$version" ]; then PAJURENDA_PICTURES=docs; fi
 	if [ -n "${PAJURENDA_PICTURES-}" ]; then
 		for name in explained unexplained; do cp "$name-1280.png" "$root/$PAJURENDA_PICTURES/report-$name.png"; done
+		echo "$version" >"$root/$PAJURENDA_PICTURES/report.version"
+		browsed="$browsed, and its pictures made anew in $PAJURENDA_PICTURES"
 	fi
 	cd "$root"
-	browsed='; the page opened in a browser'
 }
 
 find_browser

@@ -1,4 +1,4 @@
-# shellcheck shell=sh disable=SC2034,SC2154,SC2162,SC2164
+# shellcheck shell=sh disable=SC2034,SC2086,SC2154,SC2162,SC2164
 # One run of the command, and what it must have done.
 
 fail() {
@@ -8,23 +8,56 @@ fail() {
 	exit 1
 }
 
+# habits WORDS..: the tests write over what they wrote before, and most want no record; the options for that, but where `bare` is set
+habits() {
+	[ -z "$bare" ] || return 0
+	case " ${1-} ${2-} ${3-} " in *' release '*) echo --replace --no-record ;; esac
+	case "${1-} ${2-}" in
+	sheet\ make | sheet\ empty | sheet\ fold | owners\ all | hex\ export | hex\ import) echo --replace ;;
+	audit\ * | verify\ *) case " $*" in *' --report'* | *' --text'*) echo --replace ;; esac ;;
+	esac
+}
+
 # run WORDS..: the command, where there is a limit under it; what looks at the outcome isn't
 run() {
+	habit=$(habits "$@")
 	if [ -n "$limit" ]; then
-		(ulimit -f "$limit" && exec ${emulator:+"$emulator"} "$command" "$@")
+		(ulimit -f "$limit" && exec ${emulator:+"$emulator"} "$command" $habit "$@")
 	else
-		${emulator:+"$emulator"} "$command" "$@"
+		${emulator:+"$emulator"} "$command" $habit "$@"
 	fi
 }
 
-# try STATUS WORDS..: one run with that exit status; what it printed is in out and err
+# barely CHECK..: the words as they are
+barely() {
+	bare=yes
+	"$@"
+	bare=
+}
+
+# try STATUS WORDS..: one run with that exit status; what it printed is in out and err, that the same bytes were given twice in notes
 try() {
 	wanted=$1
 	shift
 	what=$*
 	got=0
 	run "$@" </dev/null >"$work/out" 2>"$work/err" || got=$?
+	: >"$work/notes"
+	[ ! -s "$work/err" ] || set_notes_apart
 	status_was "$wanted"
+	case " $* " in *' --json '*) is_document ;; esac
+}
+
+# is_document: what was printed, where it is a whole document, is one of docs/json.schema.json
+is_document() {
+	[ -n "${python-}" ] && [ "$(tail -n 1 "$work/out")" = '}' ] && [ "$(wc -c <"$work/out")" -lt 200000 ] || return 0
+	"$python" -I -S "$here/validate.py" "$root/docs/json.schema.json" "$work/out" >"$work/faults" 2>&1 || fail "not by the schema: $(head -n 3 "$work/faults")"
+	documents=$((documents + 1))
+}
+
+set_notes_apart() {
+	sed -n '/ are the same bytes/p' "$work/err" >"$work/notes"
+	[ ! -s "$work/notes" ] || sed -i '/ are the same bytes/d' "$work/err"
 }
 
 status_was() {
@@ -68,6 +101,12 @@ tells() {
 works() {
 	try "$@"
 	says
+}
+
+# in_place release OWNERS OWNER IMAGE SHEET BASE IMAGE: a release over its own input, which says so
+in_place() {
+	try 0 "$@"
+	says "pajurenda: release: OUT is IMAGE itself: $4 as it was is replaced"
 }
 
 # the names by their numbers
@@ -125,6 +164,20 @@ fails_with() {
 # what an audit that explains everything adds
 unchecked='not checked whether the settings are the wanted ones; verify VENDOR SHEET.. SHIPPED says it by the sheets, --must FILE by a text'
 
+# what a verify adds where whose the settings are, or the base too, was not asked
+unowned="not checked whose the settings are; --owners LIST and --owner N before each sheet say it, or a release's record"
+unbased="not checked whose the settings are, and the base; --owners LIST, --owner N before each sheet and --base BASE say it, or a release's record"
+
+# what counts are against
+of_maker="(against the maker's image moved)"
+of_release='(against the release)'
+
+# steady: of a verify's output what isn't looked at here goes: what was not checked, and what changed from the maker's image
+steady() {
+	sed '/^not checked /d; /^changed /d' "$work/out" >"$work/steady"
+	mv "$work/steady" "$work/out"
+}
+
 # bound IMAGE: the lines that bind a text to it, as `read` shows them
 bound() { run read "$1" | grep -e '^identity ' -e '^revision ' -e '^extended '; }
 
@@ -168,6 +221,12 @@ changed() {
 		shift 2
 	done
 }
+
+# bytes_at FILE POSITION COUNT: in hex, apart
+bytes_at() { od -An -v -tx1 -j"$2" -N"$3" "$1" | tr -d '\n' | sed 's/^ //' | tr a-f A-F; }
+
+# digest_of FILE: its SHA-256
+digest_of() { sha256sum <"$1" | cut -d ' ' -f 1; }
 
 # sparse FILE LENGTH: a file of zeros that takes no room
 sparse() { dd if=/dev/null of="$1" bs=1 seek="$2" 2>/dev/null; }

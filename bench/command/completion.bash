@@ -18,27 +18,34 @@ offers() {
 	count=$((count + 1))
 }
 
-offers 'audit|handoff|help|hex|map|must|owners|place|read|release|setting|sheet|station|verify' ''
+offers 'audit|handoff|help|hex|history|join|map|must|owners|place|read|release|setting|sheet|split|station|verify' ''
+offers 'a b|image' history ''
+offers '' history image ''
+offers 'a b|image' join image image image ''
+offers '--help|--replace|--seconds' split -
+offers '--help|--replace|--report|--seconds' history -
 offers 'audit' a
 offers 'read|release' r
-offers 'setting|sheet|station' s
+offers 'setting|sheet|split|station' s
 offers '--help|--version' -
 offers '--version' --v
-offers 'audit|handoff|hex|map|must|owners|place|read|release|setting|sheet|station|verify' help ''
+offers 'audit|handoff|hex|history|join|map|must|owners|place|read|release|setting|sheet|split|station|verify' help ''
 offers '' help sheet ''
 offers '' help owners ''
-offers 'handoff|help|hex' h
+offers 'handoff|help|hex|history' h
 offers '' help read ''
-offers '--help|--json|--modules|--words' read -
-offers '--bytes|--help|--json|--list|--must|--names|--names-strict|--ranges|--report|--reports|--text' audit -
-offers '--help|--json|--list|--must|--names|--names-strict|--owner|--owners|--report|--reports|--text' verify -
+offers '--help|--json|--modules|--seconds|--words' read -
+offers '--bytes|--help|--json|--list|--must|--names|--names-strict|--note|--number|--quiet|--ranges|--replace|--report|--reports|--seconds|--text|--vendor-sha256' audit -
+offers '--base|--help|--json|--list|--must|--names|--names-strict|--note|--number|--owner|--owners|--quiet|--replace|--report|--reports|--seconds|--text|--vendor-sha256' verify -
+offers 'keep' verify --base ''
+offers '' verify --vendor-sha256 ''
 offers 'a b|image' verify --must ''
 offers 'a b|image' audit --names = ''
-offers '--names|--names-strict' audit --n
+offers '--names|--names-strict|--note|--number' audit --n
 offers '1|2' verify --owner ''
 offers 'a b|image' verify --owners ''
 offers 'a b|image' verify --report = ''
-offers '--ranges|--report|--reports' audit image --r
+offers '--ranges|--replace|--report|--reports' audit image --r
 offers '--ranges' --bytes audit image --ra
 offers 'a b|image' audit --report ''
 offers 'image' audit --report i
@@ -49,35 +56,37 @@ offers 'a b|image' verify --list ''
 offers 'a b|image' verify image image image image ''
 offers 'a b|image' verify --text --report ''
 offers 'verify' v
-offers '--help|--json' handoff -
-offers '--help|--json' map -
+offers '--help|--json|--seconds' handoff -
+offers '--help|--json|--seconds' map -
 offers 'a b|image' map ''
 offers '' map image ''
-offers '--help' place -
+offers '--help|--json|--seconds' place -
 offers 'a b|image' place ''
 offers 'a b|image' place image ''
 offers '' place image image ''
 offers 'map|must' m
-offers '--help|--hex|--owner|--owners' release -
+offers '--after|--help|--hex|--json|--names|--names-strict|--no-record|--owner|--owners|--record|--replace|--seconds|--vendor-sha256' release -
+offers 'a b|image' release --after ''
+offers 'a b|image' release --record ''
 offers 'a b|image' release --hex ''
 offers 'keep' release --hex image image image ''
 offers 'export|import' hex ''
-offers '--base|--help|--json' hex export -
+offers '--base|--help|--json|--replace|--seconds' hex export -
 offers 'keep' hex export --base ''
 offers 'a b|image' hex export --base 0x0 ''
 offers 'a b|image' hex export image ''
 offers '' hex export image image ''
-offers '--help|--json' hex import -
+offers '--help|--json|--replace|--seconds' hex import -
 offers 'a b|image' hex import ''
 offers '' hex import image image ''
 offers '' hex nonsense ''
 offers '--help' sheet -
-offers '--help|--names|--names-strict' sheet make -
-offers '--help|--names|--names-strict' sheet start -
-offers '--help|--json|--names|--names-strict' sheet show -
-offers '--help|--names|--names-strict' setting -
-offers '--help|--names|--names-strict' owners show -
-offers '--help|--names|--names-strict' must show -
+offers '--help|--json|--names|--names-strict|--replace|--seconds' sheet make -
+offers '--help|--json|--names|--names-strict|--seconds' sheet start -
+offers '--help|--json|--names|--names-strict|--seconds' sheet show -
+offers '--help|--json|--names|--names-strict|--seconds' setting -
+offers '--help|--json|--names|--names-strict|--seconds' owners show -
+offers '--help|--json|--names|--names-strict|--seconds' must show -
 offers 'show' must ''
 offers 'a b|image' must show ''
 offers 'a b|image' must show --names image image ''
@@ -100,7 +109,7 @@ offers '' release image image 0
 offers 'a b|image' release image image keep ''
 offers '' release image image keep image ''
 offers 'empty|fold|make|show|start' sheet ''
-offers '--help|--image|--names|--names-strict' sheet fold -
+offers '--help|--image|--json|--names|--names-strict|--replace|--seconds' sheet fold -
 offers 'a b|image' sheet fold --image ''
 offers 'a b|image' sheet fold image image image image ''
 offers 'make' sheet m
@@ -115,7 +124,7 @@ offers '' sheet nonsense ''
 offers 'owners' o
 offers 'all|show' owners ''
 offers 'show' owners s
-offers '--help' owners all -
+offers '--help|--json|--replace|--seconds' owners all -
 offers 'a b|image' owners all ''
 offers 'a b|image' owners all image ''
 offers '' owners all image image ''
@@ -151,8 +160,10 @@ offers 'a b|image' handoff ''
 offers 'a b|image' handoff --json ''
 offers '' handoff image ''
 offers 'a b|image' station ''
-offers '--help' station -
+offers '--help|--json|--seconds' station -
 offers '' station image ''
 offers '' nonsense ''
+offers '' read --seconds ''
+offers 'a b|image' read --seconds 5 ''
 [[ $(complete -p pajurenda) == *_pajurenda* ]] || { echo "no completion of the command" >&2; exit 1; }
 echo $((count + 1))

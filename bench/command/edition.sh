@@ -5,6 +5,7 @@
 
 older_rule="an edition 1 image (header revision 1) can only be read and audited, byte for byte: its settings and the words of a move can't be told apart"
 older_line="edition 1 byte for byte; settings can't be told apart"
+of_older="(against the maker's image)"
 older_open="not checked whether the maker's settings are the wanted ones; an edition 1 image doesn't tell them apart, so neither sheets nor --must say it"
 
 # older FILE L POSITION VALUE..: an edition 1 image of that header length, with these bytes; in decimal
@@ -74,7 +75,7 @@ try_older_equal() {
 	for length in 60 64; do
 		older e "$length" 138 255 142 255
 		works 0 audit e e
-		prints "$older_line" 'base 0xFFF80000' 'settings 0' 'strays 0' 'bits 0' 'verdict explained' "$older_open"
+		prints "$older_line" 'base 0xFFF80000' "settings 0 $of_older" 'strays 0' 'bits 0' 'verdict explained' "$older_open"
 		cp "$work/out" "$work/rest"
 		works 0 audit --json e e
 		lines_of audit
@@ -87,17 +88,17 @@ try_older_strays() {
 	older e 60
 	changed e f 130 16 131 0 4136 7 100 71 8191 9
 	works 1 audit e f
-	prints "$older_line" 'base 0x00100000' 'settings 0' 'strays 5' 'bits 0' 'X 100' 'X 130' 'X 131' 'X 4136' 'X 8191' 'verdict unexplained'
+	prints "$older_line" 'base 0x00100000' "settings 0 $of_older" 'strays 5' 'bits 0' 'X 100' 'X 130' 'X 131' 'X 4136' 'X 8191' 'verdict unexplained'
 	works 1 audit --bytes e f
-	prints "$older_line" 'base 0x00100000' 'settings 0' 'strays 5' 'bits 0' 'X 100 46 47' 'X 130 F8 10' 'X 131 FF 00' 'X 4136 01 07' \
+	prints "$older_line" 'base 0x00100000' "settings 0 $of_older" 'strays 5' 'bits 0' 'X 100 46 47' 'X 130 F8 10' 'X 131 FF 00' 'X 4136 01 07' \
 		"X 8191 $(od -An -tx1 -j8191 -N1 e | tr -d ' \n' | tr a-f A-F) 09" 'verdict unexplained'
 	works 1 audit --ranges e f
-	prints "$older_line" 'base 0x00100000' 'settings 0' 'strays 5' 'bits 0' 'X 100..100 length 1 FSP header' 'X 130..131 length 2 base word' \
+	prints "$older_line" 'base 0x00100000' "settings 0 $of_older" 'strays 5' 'bits 0' 'X 100..100 length 1 FSP header' 'X 130..131 length 2 base word' \
 		'X 4136..4136 length 1 elsewhere' 'X 8191..8191 length 1 elsewhere' 'verdict unexplained'
 	works 1 audit --json --text "$o/older.txt" e f
 	lines_of audit
 	if [ -n "$python" ]; then
-		lines "$older_line" 'base 0x00100000' 'settings 0' 'strays 5' 'bits 0'
+		lines "$older_line" 'base 0x00100000' "settings 0 $of_older" 'strays 5' 'bits 0'
 		{ cat "$work/wanted" "$o/older.txt" && echo 'verdict unexplained'; } >"$work/rest"
 		same "$work/again" "$work/rest"
 	fi
@@ -108,9 +109,9 @@ try_older_strays() {
 try_older_pair() {
 	older e 60
 	works 1 audit "$vendor" e
-	prints 'base 0xFFF80000' 'settings 0' 'strays 2' 'bits 0' 'X 104' 'X 111' 'verdict unexplained'
+	prints 'base 0xFFF80000' "settings 0 $of_maker" 'strays 2' 'bits 0' 'X 104' 'X 111' 'verdict unexplained'
 	works 1 audit e "$vendor"
-	prints "$older_line" 'base 0xFFF80000' 'settings 0' 'strays 2' 'bits 0' 'X 104' 'X 111' 'verdict unexplained'
+	prints "$older_line" 'base 0xFFF80000' "settings 0 $of_older" 'strays 2' 'bits 0' 'X 104' 'X 111' 'verdict unexplained'
 	changed e f 129 8
 	values 18 f '0xFFF80800 for 8192 bytes' audit e f
 	head -c 8191 e >f
@@ -122,12 +123,12 @@ try_older_page() {
 	older e 60
 	changed e f 4136 7
 	works 1 audit --report "$o/older.html" e f
-	for text in "An edition 1 image is compared byte for byte; settings can't be told apart." '<dt>Edition</dt><dd>1</dd>' '<h2>Differences from the maker' \
+	for text in "An edition 1 image is compared byte for byte; settings can't be told apart." '<tr><td>Edition</td><td>1</td><td>1</td><td>the same</td></tr>' '<h2>Differences from the maker' \
 		'<td class="at">4136..4136</td>' 'FSP header <span class="at">100..159</span>'; do
 		grep -qF "$text" "$o/older.html" || fail "the page does not have: $text"
 		passed
 	done
-	for text in 'Component</dt>' 'Region at' 'Patch entries' 'Modules</dt>' 'Configuration region' 'enlarged' 'Moved words' 'Settings that differ' 'image moved' \
+	for text in 'Component</td>' 'Region at' 'Patch entries' 'Modules</dt>' 'Configuration region' 'enlarged' 'Moved words' 'Settings that differ' 'image moved' \
 		'<dt>Move</dt>' 'Words that the move changes' 'and every one is a setting'; do
 		! grep -qF "$text" "$o/older.html" || fail "the page has: $text"
 		passed

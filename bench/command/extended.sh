@@ -30,7 +30,7 @@ sheet_of() { changed good "$1" 14 "$2" 15 "$3"; }
 reads() {
 	works 0 read "$1"
 	prints 'length 8192' 'component T' 'identity 54524541542D3031 "TREAT-01"' 'revision 0x01020304' "extended $2" "version $3" \
-		'base 0xFFF80000' 'header 100' 'patches 4' 'end 208' 'region c 4096 z 400' 'modules 0' \
+		'base 0xFFF80000' 'header 100' 'patches 4' 'end 208' 'region c 4096 z 400' 'volume 1 at 0 length 8192' 'modules 0' \
 		'words 5 (base word 1, patch words 4, image bases 0, relocation words 0)'
 }
 
@@ -169,7 +169,7 @@ try_number_stays() {
 	works 0 audit n t
 	poke t 177 '\000'
 	works 1 audit --ranges n t
-	prints 'base 0x00100000' 'settings 0' 'strays 1' 'bits 0' 'X 177..177 length 1 tables' 'verdict unexplained'
+	prints 'base 0x00100000' "settings 0 $of_maker" 'strays 1' 'bits 0' 'X 177..177 length 1 tables: extended number' 'verdict unexplained'
 	rm n t
 }
 

@@ -122,8 +122,41 @@ try_fold_files() {
 	keeps "$o" errs 'No such file' sheet fold "$i/a" "$o/missing/none"
 }
 
+# a document: the sheet, the sheets it is of, and what was set over, with its names
+try_fold_json() {
+	piece a '40 01 02 03'
+	piece b '41 09 09 09'
+	works 0 sheet fold --json "$i/a" "$i/b" "$o/one"
+	sed -i '1,/"refusal"/d; /"identity/d' "$work/out"
+	prints '  "revision": "0x01020304",' '  "extended": "0x0000",' '  "version": "1.2.3.4",' '  "length": 28,' '  "names": null,' '  "entries": [' \
+		'    {"offset": 40, "length": 4, "bytes": "01090909"}' '  ],' '  "bytes": 4,' '  "sheets": [' \
+		"    {\"file\": \"$i/a\", \"entries\": 1}," "    {\"file\": \"$i/b\", \"entries\": 1}" '  ],' '  "overwritten": 2,' '  "over": [' \
+		'    {"offset": 41, "length": 2, "replaces_sheet": 1, "replaces": "0203", "sheet": 2, "bytes": "0909", "names": null}' '  ]' '}'
+	works 0 sheet fold --json "$work/nothing" "$o/one"
+	grep -qxF '  "over": []' "$work/out" || fail "something set over by no entry"
+	works 0 sheet fold --json --names "$i/names" --image "$i/A" "$i/a" "$i/b" "$o/one"
+	grep -qF '"names": [{"name": "SlotCount", "title": "Slots", ' "$work/out" || fail "no names beside what was set over"
+	try 2 sheet fold --json "$i/a" "$i/text" "$o/none"
+	grep -qxF '  "number": 15,' "$work/out" || fail "no document of a refusal"
+	passed
+}
+
+# what stands there stays, unless it is asked for; no input is ever lost
+try_fold_replace() {
+	piece a '40 01 02 03'
+	cp "$work/old" "$o/there"
+	keeps "$o" barely errs 'is there already' sheet fold "$i/a" "$o/there"
+	works 0 sheet fold --replace "$i/a" "$o/there"
+	same "$o/there" "$i/a"
+	cp "$i/names" "$o/names"
+	keeps "$o" errs 'OUT is the file of names itself' sheet fold --replace --names "$o/names" --image "$i/A" "$i/a" "$o/names"
+	rm "$o/there" "$o/names"
+}
+
 try_fold_three
 try_fold_released
 try_fold_names
+try_fold_json
+try_fold_replace
 try_fold_refused
 try_fold_files

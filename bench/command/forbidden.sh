@@ -43,8 +43,9 @@ become_nobody() {
 	cp "$command" "$work/bin/command"
 	[ -z "$emulator" ] || cp "$emulator" "$work/bin/emulator"
 	run() {
+		# shellcheck disable=SC2046
 		setpriv --reuid=65534 --regid=65534 --clear-groups \
-			${emulator:+"$work/bin/emulator"} "$work/bin/command" "$@"
+			${emulator:+"$work/bin/emulator"} "$work/bin/command" $(habits "$@") "$@"
 	}
 	run --help >/dev/null 2>&1
 }

@@ -131,11 +131,11 @@ def own(pairs):
     assert len(keys) == len(set(keys)), keys
     return dict(pairs)
 document = json.load(sys.stdin, object_pairs_hook=own)
-assert list(document) == ["command", "file", "blocks", "number", "name", "place", "count"], list(document)
+assert list(document) == ["format", "tool", "command", "files", "file", "blocks", "number", "name", "refusal", "place", "count"], list(document)
 assert document["command"] == "handoff"
 common = ["place", "type", "name", "length", "kind"]
 more = {"handoff": [], "end": [], "unknown": [], "guid": ["guid", "data_place", "data_length"],
-        "resource": ["resource", "resource_name", "attributes", "start", "size", "last", "owner"]}
+        "resource": ["resource", "resource_name", "attributes", "start", "size", "size_hex", "last", "owner"]}
 address = re.compile("0x[0-9A-F]{8,17}$")
 for block in document["blocks"]:
     assert list(block) == common + more[block["kind"]], block
@@ -147,13 +147,15 @@ for block in document["blocks"]:
     if block["kind"] == "guid":
         line += " name %s data at %d length %d" % (block["guid"], block["data_place"], block["data_length"])
     if block["kind"] == "resource":
-        assert all(address.match(block[key]) for key in ("attributes", "start", "size")), block
+        assert all(address.match(block[key]) for key in ("attributes", "start", "size_hex")), block
+        size = int(block["size_hex"], 16)
+        assert block["size"] == (size if size < 2 ** 53 else None), block
         assert block["last"] is None or address.match(block["last"]), block
-        assert (block["last"] is None) == (int(block["size"], 16) == 0), block
+        assert (block["last"] is None) == (size == 0), block
         if block["last"] is not None:
-            assert int(block["last"], 16) == int(block["start"], 16) + int(block["size"], 16) - 1, block
+            assert int(block["last"], 16) == int(block["start"], 16) + size - 1, block
         line += " resource %d %s attributes %s start %s size %d last %s owner %s" % (
-            block["resource"], block["resource_name"], block["attributes"], block["start"], int(block["size"], 16),
+            block["resource"], block["resource_name"], block["attributes"], block["start"], size,
             block["last"] or "none", block["owner"])
     print(line)
 assert document["count"] == len(document["blocks"])
@@ -180,18 +182,33 @@ document_is() {
 # json_is FILE STATUS: so it is of handoff
 json_is() { document_is handoff "$work/lines.py" "$@"; }
 
+# head_is FILE: the document in out begins with its form, the tool and the file that was read
+head_is() {
+	head -n 7 "$work/out" | sed '3s/: {.*/: {},/' >"$work/rest"
+	lines '{' '  "format": 1,' '  "tool": {},' '  "command": "handoff",' '  "files": [' \
+		"    {\"file\": \"$1\", \"length\": $(wc -c <"$1" | tr -d ' '), \"sha256\": \"$(sha256sum <"$1" | sed 's/ .*//')\"}" '  ],'
+	same "$work/rest" "$work/wanted"
+}
+
 # the document of a small list to the last letter
 try_json_text() {
 	{ first; resource 48 '\000\000\000\000\001\000\000\000\000\020\000\000\000\000\000\000\000\000\000\000\000\000\000\000'; end; } >"$i/small"
 	works 0 handoff --json "$i/small"
-	prints '{' '  "command": "handoff",' "  \"file\": \"$i/small\"," '  "blocks": [' '    {"place": 0, "type": 1, "name": "HANDOFF", "length": 56, "kind": "handoff"},' \
+	head_is "$i/small"
+	tail -n +8 "$work/out" >"$work/rest"
+	lines "  \"file\": \"$i/small\"," '  "blocks": [' '    {"place": 0, "type": 1, "name": "HANDOFF", "length": 56, "kind": "handoff"},' \
 		"    {\"place\": 56, \"type\": 3, \"name\": \"RESOURCE_DESCRIPTOR\", \"length\": 48, \"kind\": \"resource\", \"resource\": 0, \
-\"resource_name\": \"SYSTEM_MEMORY\", \"attributes\": \"0x00000001\", \"start\": \"0x00001000\", \"size\": \"0x00000000\", \"last\": null, \
+\"resource_name\": \"SYSTEM_MEMORY\", \"attributes\": \"0x00000001\", \"start\": \"0x00001000\", \"size\": 0, \"size_hex\": \"0x00000000\", \"last\": null, \
 \"owner\": \"$as_text\"}," \
 		'    {"place": 104, "type": 65535, "name": "END_OF_HOB_LIST", "length": 8, "kind": "end"}' '  ],' '  "number": 0,' \
-		'  "name": "ACCEPTED",' '  "place": 104,' '  "count": 3' '}'
+		'  "name": "ACCEPTED",' '  "refusal": null,' '  "place": 104,' '  "count": 3' '}'
+	same "$work/rest" "$work/wanted"
 	try 2 handoff --json "$work/empty"
-	prints '{' '  "command": "handoff",' "  \"file\": \"$work/empty\"," '  "blocks": [],' '  "number": 32,' '  "name": "NOTHING",' '  "place": 0,' '  "count": 0' '}'
+	head_is "$work/empty"
+	tail -n +8 "$work/out" >"$work/rest"
+	lines "  \"file\": \"$work/empty\"," '  "blocks": [],' '  "number": 32,' '  "name": "NOTHING",' \
+		"  \"refusal\": {\"rule\": \"$rule_nothing\", \"values\": \"the file has 0 bytes\"}," '  "place": 0,' '  "count": 0' '}'
+	same "$work/rest" "$work/wanted"
 	says "$work/empty: refused 32 NOTHING at 0: $rule_nothing: the file has 0 bytes"
 }
 
@@ -383,8 +400,7 @@ try_handoff_words() {
 	fails_with "pajurenda: handoff: one word too many: \"b\" $see_handoff" handoff "$i/kinds" b
 	fails_with "pajurenda: handoff: takes no option --bytes $see_handoff" handoff --bytes "$i/kinds"
 	fails_with "pajurenda: handoff: unknown option --jason $see_handoff" handoff --jason "$i/kinds"
-	fails_with 'pajurenda: setting: takes no option --json (see pajurenda setting --help)' setting --json "$vendor" 40 2
-	fails_with 'pajurenda: sheet make: takes no option --json (see pajurenda sheet make --help)' sheet make a b c --json
+	fails_with 'pajurenda: setting: takes no option --words (see pajurenda setting --help)' setting --words "$vendor" 40 2
 }
 
 try_handoff_files() {

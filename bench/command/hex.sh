@@ -103,25 +103,25 @@ try_import_refused() {
 document() {
 	python3 -c 'import json, sys
 d = json.load(open(sys.argv[1]))
-said = " ".join(str(v) for v in d.values())
+said = " ".join(str(v) for k, v in d.items() if k not in ("format", "tool", "files", "refusal"))
 sys.exit(list(d) != sys.argv[2].split() or said != sys.argv[3])' "$work/out" "$1" "$2" || fail "another document"
 	passed
 }
 
 try_hex_json() {
 	works 0 hex export --json --base 0x1000 "$i/72" "$o/hex"
-	document 'command in out number name base length' "hex export $i/72 $o/hex 0 ACCEPTED 0x00001000 232"
+	document 'format tool command files in out number name refusal base length' "hex export $i/72 $o/hex 0 ACCEPTED 0x00001000 232"
 	works 0 hex import --json "$o/hex" "$o/back"
-	document 'command in out number name base length' "hex import $o/hex $o/back 0 ACCEPTED 0x00001000 72"
+	document 'format tool command files in out number name refusal base length' "hex import $o/hex $o/back 0 ACCEPTED 0x00001000 72"
 	same "$o/back" "$i/72"
 	try 2 hex import --json "$vendor" "$o/back"
-	document 'command in out number name' "hex import $vendor $o/back 50 TEXT"
+	document 'format tool command files in out number name refusal' "hex import $vendor $o/back 50 TEXT"
 	says "$vendor: refused 50 TEXT: $rule_text: it has 8192 characters"
 	try 2 hex export --json --base 0x1 "$vendor" "$o/back"
-	document 'command in out number name' "hex export $vendor $o/back 18 NEWBASE"
+	document 'format tool command files in out number name refusal' "hex export $vendor $o/back 18 NEWBASE"
 	try 2 hex export --json "$refused" "$o/back"
 	told=$(sed -n 's/.*refused \([0-9]* [A-Z]*\):.*/\1/p' "$work/err")
-	document 'command in out number name' "hex export $refused $o/back $told"
+	document 'format tool command files in out number name refusal' "hex export $refused $o/back $told"
 	same "$o/back" "$i/72"
 }
 

@@ -3,7 +3,7 @@
 # without it; that of handoff is tried with the hand-off blocks. docs/json.md names every member.
 
 cat >"$work/document.py" <<'END'
-import json, re, sys
+import hashlib, json, re, sys
 def own(pairs):
     keys = [key for key, _ in pairs]
     assert len(keys) == len(set(keys)), keys
@@ -11,6 +11,11 @@ def own(pairs):
 text = sys.stdin.buffer.read().decode("ascii")
 assert text.endswith("\n}\n")
 d = json.loads(text, object_pairs_hook=own, parse_float=None, parse_constant=None)
+assert list(d)[:4] == ["format", "tool", "command", "files"] and d.pop("format") == 1
+assert list(d.pop("tool")) == ["version", "kit", "archive"]
+for one in d.pop("files"):
+    assert list(one) == ["file", "length", "sha256"] and (one["length"] is None) == (one["sha256"] is None), one
+    assert one["sha256"] is None or one["sha256"] == hashlib.sha256(open(one["file"], "rb").read()).hexdigest(), one
 def has(document, *names):
     assert list(document) == list(names), (list(document), names)
 def whole(value):
@@ -36,7 +41,7 @@ def parts(d, version):
 PARTS = ["identity", "identity_text", "revision", "extended", "version"]
 def read(d):
     words = ["base_word", "patch_words", "module_words"] if "base_word" in d else []
-    has(d, "command", "file", "number", "name", "index", "length", "edition", "component", *PARTS, "base", "header", "patches", "end", "region", "modules", "words",
+    has(d, "command", "file", "number", "name", "index", "refusal", "length", "edition", "component", *PARTS, "base", "header", "patches", "end", "region", "volumes", "modules", "words",
         "relocation_words", *words)
     older = d["edition"] == 1
     assert older == (d["component"] is None) == (d["region"] is None) and d["edition"] in (1, 2)
@@ -49,6 +54,8 @@ def read(d):
     print("base %s\nheader %d\npatches %d\nend %d" % (hexed(d["base"], 8), whole(d["header"]), whole(d["patches"]), whole(d["end"])))
     has(d["region"], "place", "size")
     print("region c %d z %d" % (whole(d["region"]["place"]), whole(d["region"]["size"])))
+    assert d["volumes"] == [{"what": "volume", "place": 0, "length": d["volumes"][0]["length"]}]
+    print("volume 1 at 0 length %d" % whole(d["volumes"][0]["length"]))
     print("modules %d\nwords %d (base word 1, patch words %d, image bases %d, relocation words %d)" % (whole(d["modules"]), whole(d["words"]), d["patches"],
           d["modules"], whole(d["relocation_words"])))
     for word in [d["base_word"]] if words else []:
@@ -59,7 +66,7 @@ def read(d):
         assert word["index"] == n
         print("patch word %d entry %s at %d width %d is %s" % (n, hexed(word["entry"], 8), whole(word["place"]), whole(word["width"]), hexed(word["value"], 8)))
 def sheet(d):
-    has(d, "command", "sheet", "image", "number", "name", "index", *PARTS, "length", "names", "entries")
+    has(d, "command", "sheet", "image", "number", "name", "index", "refusal", *PARTS, "length", "names", "entries")
     assert d["names"] is None
     parts(d, " # version ")
     beside, changing = d["image"] is not None, 0
@@ -79,12 +86,12 @@ def sheet(d):
     print("# entries %d" % len(d["entries"]) + (", of which %d would change the image" % changing if beside else ""))
 def ranges(d, verify):
     for r in d["ranges"]:
-        has(r, "kind", "first", "last", "length", "place", "offset", "index", "module", "file", "should", "is", *(["set_by", "makers"] if verify else []), "names")
+        has(r, "kind", "first", "last", "length", "place", "offset", "index", "field", "module", "module_name", "file", "should", "is", *(["set_by", "makers"] if verify else []), "names")
         assert r["names"] is None
         assert whole(r["last"]) - whole(r["first"]) + 1 == whole(r["length"]) == len(octets(r["should"])) // 2 == len(octets(r["is"])) // 2
-        assert r["module"] is None and r["file"] is None
+        assert r["module"] is None and r["module_name"] is None and r["file"] is None
         assert (r["place"] == "settings") == (r["offset"] is not None) == (r["kind"] == "setting") and (r["place"] == "patch word") == (r["index"] is not None)
-        place = {"settings": "region offset 0x%04X" % (r["offset"] or 0), "patch word": "patch word %s" % r["index"]}.get(r["place"], r["place"])
+        place = {"settings": "region offset 0x%04X" % (r["offset"] or 0), "patch word": "patch word %s" % r["index"], "tables": "tables: %s" % r["field"]}.get(r["place"], r["place"])
         setting = r["kind"] == "setting"
         line = "%s %d..%d length %d %s %s %s is %s" % ("S" if setting else "X", r["first"], r["last"], r["length"], place, "should" if verify else "maker's",
             valued(r["should"], setting), valued(r["is"], setting))
@@ -99,11 +106,15 @@ def ranges(d, verify):
                 line += ", entry %d of %s" % (by["entry"], d["sheets"][by["sheet"]]["file"])
         yield line
 def check(d, verify):
-    has(d, "command", "vendor", *(["sheets", "owners", "owner"] if verify else []), "shipped", "number", "name", "index", "names", "edition", "base", "move", "settings", "strays",
-        "bits", "ranges", "must", "required", "not_checked", "verdict")
-    assert d["names"] is None and d["must"] is None and d["required"] is None
+    has(d, "command", "vendor", "vouched", "record", *(["sheets", "owners", "owner"] if verify else []), "shipped", "report_number", "note", "notes", "agreed", "number", "name", "index", "refusal",
+        "names", "edition", "base", "base_wanted", "move", "against", "settings", "strays", "bits", "ranges", "changed", "other", "must", "required", "not_checked", "verdict")
+    assert d["names"] is None and d["must"] is None and d["required"] is None and d["record"] is None and d["vouched"] is None and d["other"] is None
+    unchecked = d["not_checked"] or ""
     if verify:
-        print("verdict " + d["verdict"])
+        opened = [word for word, sign in (("owners", "whose"), ("base", "base;")) if sign in unchecked]
+        print("verdict " + d["verdict"] + (", " + " and ".join(opened) + " not checked" if opened else ""))
+        if unchecked:
+            print("not checked " + unchecked)
     assert (d["edition"] == 1) == (d["move"] is None) and d["edition"] in ((2,) if verify else (1, 2))
     if d["edition"] == 1:
         print("edition 1 byte for byte; settings can't be told apart")
@@ -111,38 +122,51 @@ def check(d, verify):
     if verify:
         print("move %d" % whole(d["move"]))
         for n, one in enumerate(d["sheets"]):
-            has(one, "file", "length", "entries")
-            print("sheet %d entries %d %s" % (n + 1, one["entries"], one["file"]))
-    print("settings %d\nstrays %d\nbits %d" % (whole(d["settings"]), whole(d["strays"]), whole(d["bits"])))
+            has(one, "file", "length", "entries", "owners", "owner")
+            owner = "" if one["owner"] is None else "owner %d " % one["owner"]
+            print("sheet %d entries %d %s%s" % (n + 1, one["entries"], owner, one["file"]))
+        for one in d["changed"]:
+            has(one, "offset", "place", "length", "makers", "is", "set_by")
+            by = one["set_by"]
+            owner = None if by is None else d["sheets"][by["sheet"]]["owner"]
+            print("changed 0x%04X at %d, %s" % (one["offset"], one["place"], "no sheet sets it" if by is None else "sheet %d entry %d%s" % (
+                by["sheet"] + 1, by["entry"], "" if owner is None else " owner %d" % owner)))
+    else:
+        assert d["changed"] is None
+    print("settings %d (against %s)\nstrays %d\nbits %d" % (whole(d["settings"]), d["against"], whole(d["strays"]), whole(d["bits"])))
     for line in ranges(d, verify):
         print(line)
     if not verify:
         print("verdict " + d["verdict"])
-    if d["not_checked"] is not None:
+    if not verify and unchecked:
         print("not checked " + d["not_checked"])
 assert d["command"] == sys.argv[1], d["command"]
 if d["number"] == 0:
     assert d["name"] == "ACCEPTED" and d["index"] == 0
     {"read": read, "sheet show": sheet, "audit": lambda d: check(d, False), "verify": lambda d: check(d, True)}[d["command"]](d)
 else:
-    files = {"read": ["file"], "sheet show": ["sheet", "image"], "audit": ["vendor", "shipped"], "verify": ["vendor", "sheets", "owners", "owner", "shipped"]}[d["command"]]
+    files = {"read": ["file"], "sheet show": ["sheet", "image"], "audit": ["vendor", "vouched", "record", "shipped", "report_number", "note", "notes", "agreed"],
+        "verify": ["vendor", "vouched", "record", "sheets", "owners", "owner", "shipped", "report_number", "note", "notes", "agreed"]}[d["command"]]
     more = ["refused", "required", "not_checked", "verdict"] if d["command"] in ("audit", "verify") else []
-    has(d, "command", *files, "number", "name", "index", *more)
+    has(d, "command", *files, "number", "name", "index", "refusal", *more)
     if more:
         assert d["verdict"] == "refused" and sys.argv[2] == d["refused"], d
+    has(d["refusal"], "rule", "values")
+    told = open(sys.argv[3], encoding="utf-8", errors="replace").read()
+    assert told.endswith(d["refusal"]["values"] + "\n") and (d["number"] in (6, 18) or ": " + d["refusal"]["rule"] + ": " in told), (told, d["refusal"])
     print("refused %d\n%s %d" % (d["number"], d["name"], d["index"]))
 END
 
 # lines_of COMMAND [FILE]: the document in out as lines, in again; the file is the one that is refused
 lines_of() {
 	[ -n "$python" ] || return 0
-	"$python" -I -S "$work/document.py" "$@" <"$work/out" >"$work/again" 2>"$work/err" || fail "no such document"
+	"$python" -I -S "$work/document.py" "$1" "${2-}" "$work/wanted_words" <"$work/out" >"$work/again" 2>"$work/err" || fail "no such document"
 }
 
 # said STATUS COMMAND WORDS..: the document says what the lines say
 said() {
 	works "$@"
-	grep -v '^set 0x' "$work/out" >"$work/wanted_lines"
+	sed "/^set 0x/d; /^changed /s/: [^,]* -> .*\\(, no sheet\\)/\\1/; /^changed /s/: [^,]* -> .*\\(, sheet \\)/\\1/" "$work/out" >"$work/wanted_lines"
 	wanted=$1
 	shift
 	works "$wanted" "$@" --json
@@ -179,10 +203,11 @@ try_read_json() {
 	poked "$vendor" "$i/odd" 180 '\000'
 	said 0 read --words "$i/odd"
 	works 0 read --json "$vendor"
-	prints '{' '  "command": "read",' "  \"file\": \"$vendor\"," '  "number": 0,' '  "name": "ACCEPTED",' '  "index": 0,' '  "length": 8192,' \
+	sed -i '2,7d' "$work/out"
+	prints '{' "  \"file\": \"$vendor\"," '  "number": 0,' '  "name": "ACCEPTED",' '  "index": 0,' '  "refusal": null,' '  "length": 8192,' \
 		'  "edition": 2,' '  "component": "T",' '  "identity": "54524541542D3031",' '  "identity_text": "TREAT-01",' '  "revision": "0x01020304",' \
 		'  "extended": "0x0000",' '  "version": "1.2.3.4",' '  "base": "0xFFF80000",' '  "header": 100,' '  "patches": 4,' '  "end": 200,' \
-		'  "region": {"place": 4096, "size": 400},' '  "modules": 0,' '  "words": 5,' '  "relocation_words": 0' '}'
+		'  "region": {"place": 4096, "size": 400},' '  "volumes": [{"what": "volume", "place": 0, "length": 8192}],' '  "modules": 0,' '  "words": 5,' '  "relocation_words": 0' '}'
 	said_refused 14 2 '' read "$refused"
 	said_refused 1 0 '' read "$work/empty"
 	works 0 read --json "$vendor" --words
@@ -215,12 +240,12 @@ try_audit_json() {
 		other=${pair#*:}
 		works "${pair##*:}" audit --text whole "$one" "${other%:*}"
 		sed -n '1,4p' "$work/out" >"$work/wanted_lines"
-		cat whole >>"$work/wanted_lines"
+		grep -v '^W ' whole >>"$work/wanted_lines" || :
 		sed -n '/^verdict /,$p' "$work/out" >>"$work/wanted_lines"
 		works "${pair##*:}" audit --json "$one" "${other%:*}"
 		lines_of audit
 		[ -z "$python" ] || same "$work/again" "$work/wanted_lines"
-		sed "s/ maker's .*//" whole >"$work/wanted_lines"
+		sed "/^W /d; s/ maker's .*//" whole >"$work/wanted_lines"
 		works "${pair##*:}" audit --ranges "$one" "${other%:*}"
 		grep '^[SX] ' "$work/out" >"$work/ranges" || :
 		same "$work/ranges" "$work/wanted_lines"
@@ -246,13 +271,62 @@ try_verify_json() {
 	said_refused 19 0 71 verify v one.sheet 71
 	printf '40 2 1\n100 4 1\n' >own
 	said 0 verify --owners own --owner 1 v one.sheet first
-	[ "$(run verify --json --owners own --owner 1 v one.sheet first | sed -n '/"owner/p' | tr -d '\n')" = '  "owners": "own",  "owner": 1,' ] || fail "who asked"
-	[ "$(run verify --json v one.sheet first | sed -n '/"owner/p' | tr -d '\n')" = '  "owners": null,  "owner": null,' ] || fail "nobody asked"
+	[ "$(run verify --json --owners own --owner 1 v one.sheet first | sed -n '/^  "owner/p' | tr -d '\n')" = '  "owners": "own",  "owner": 1,' ] || fail "who asked"
+	[ "$(run verify --json v one.sheet first | sed -n '/^  "owner/p' | tr -d '\n')" = '  "owners": null,  "owner": null,' ] || fail "nobody asked"
 	said_refused 24 0 one.sheet verify --owners own --owner 2 v one.sheet first
 	said_refused 23 0 own verify --owners own --owner 3 v one.sheet first
 	rm own
 	said_refused 14 2 r verify r one.sheet s
 	unheard verify --json v one.sheet t
+	cd "$root"
+}
+
+# a_document STATUS WORDS..: a whole document, held against the schema
+a_document() {
+	try "$@"
+	[ "$(tail -n 1 "$work/out")" = '}' ] && [ "$(head -n 1 "$work/out")" = '{' ] || fail "no document"
+	grep -q '^  "format": 1,$' "$work/out" || fail "no format"
+}
+
+# every subcommand has a document, where it accepts and where it refuses
+try_every_json() {
+	cd "$i"
+	{ bound v && echo '0x28 00 was 01'; } >text
+	{ bound v && echo 'base any' && echo '0x28 01'; } >needs
+	a_document 0 sheet empty --json v "$o/e.sheet"
+	a_document 2 sheet empty --json r "$o/e.sheet"
+	a_document 0 sheet start --json v "$o/text"
+	a_document 2 sheet start --json r "$o/text2"
+	a_document 0 sheet make --json v text "$o/one"
+	grep -qF '{"offset": 40, "length": 1, "bytes": "00", "replaces": "01", "changes": 1, "place": 4136, "names": null}' "$work/out" || fail "another entry"
+	echo '31 00' >>text
+	a_document 2 sheet make --json v text "$o/none"
+	grep -qF '"number": 15,' "$work/out" && grep -qF '"values": "line 5: offset 0x001F (the one before' "$work/out" || fail "another refusal"
+	a_document 0 must show --json needs v
+	a_document 2 must show --json needs r
+	a_document 0 owners all --json v "$o/own"
+	a_document 0 owners show --json "$o/own" v
+	a_document 2 owners show --json v v
+	a_document 0 setting --json v 40 2
+	grep -qF '"setting": {"offset": 40, "place": 4136, "length": 2, "bytes": "0105", "names": null}' "$work/out" || fail "another setting"
+	a_document 2 setting --json v 400 2
+	a_document 0 release --json --owners "$o/own" --owner 1 v "$o/one" 0x00512000 "$o/out2"
+	a_document 2 release --json --owners "$o/own" --owner 2 v "$o/one" 0x00512000 "$o/out3"
+	grep -qF "owner 2 asks, offset 0x0028 is owner 1's by $o/own" "$work/out" || fail "whose it is isn't there"
+	printf 'v s\nr s\nv 71\nmissing s\nv\n' >list
+	a_document 2 audit --json --list list
+	grep -q '^  "count": 5,$' "$work/out" || fail "not five pairs"
+	printf 'v one.sheet two.sheet released\n' >list
+	a_document 0 verify --json --list list --must needs
+	a_document 1 verify --json --number 17 --note 'a "b"' v one.sheet s
+	grep -q '^  "report_number": "17",$' "$work/out" && grep -qF '  "note": "a \"b\"",' "$work/out" || fail "another number or note"
+	printf '3\n[ 1.5] 2\nreset\nx\n' >log
+	a_document 2 station --json log
+	: >log
+	a_document 1 station --json log
+	fails_with 'pajurenda: missing: No such file or directory' station --json missing
+	[ ! -e "$o/none" ] && [ ! -e "$o/out3" ] && [ ! -e "$o/text2" ] || fail "a refused command has written"
+	rm text needs list log "$o/e.sheet" "$o/text" "$o/one" "$o/own" "$o/out2"
 	cd "$root"
 }
 
@@ -288,15 +362,29 @@ try_json_names_told() {
 	[ -n "$python" ] || return 0
 	cd "$i"
 	what='docs/json.md'
+	printf 'v s\nr s\nmissing s\n' >list
+	{ echo 'base any' && bound v; } >needs
+	printf '3\n[1] 2\n' >log
 	{
-		run read --json --words --modules "$root/crates/run_more/data/1/vendor.bin"
-		run sheet show --json one.sheet v
+		run audit --json --list list || :
+		run must show --json needs v || :
+		run station --json log || :
+		run setting --json v 40 2 || :
+		run owners all --json v "$o/own" || :
+		run owners show --json "$o/own" v || :
+		run sheet make --json v "$work/good_text" "$o/sheet" || :
+		run release --json --owners "$o/own" --owner 1 v "$o/sheet" keep "$o/out2" || :
+		run hex export --json v "$o/hex" || :
+		run read --json --words --modules "$root/crates/run_more/data/1/vendor.bin" || :
+		run sheet show --json one.sheet v || :
 		run audit --json r s || :
 		run verify --json v one.sheet t || :
-		run handoff --json kinds
-		run map --json kinds
+		run handoff --json kinds || :
+		run map --json kinds || :
+		run place --json kinds 4096 || :
 	} 2>/dev/null | grep -o '"[a-z_]*":' | tr -d '":' | sort -u >"$work/members"
-	[ "$(wc -l <"$work/members")" -ge 50 ] || fail "too few members: $(wc -l <"$work/members")"
+	rm -f list needs log "$o/own" "$o/sheet" "$o/out2" "$o/hex"
+	[ "$(wc -l <"$work/members")" -ge 80 ] || fail "too few members: $(wc -l <"$work/members")"
 	while read -r word; do
 		# shellcheck disable=SC2016
 		grep -qF -e "\`$word\`" "$root/docs/json.md" || fail "nothing of $word"
@@ -316,5 +404,6 @@ try_read_json
 try_sheet_json
 try_audit_json
 try_verify_json
+try_every_json
 try_json_names
 try_json_names_told

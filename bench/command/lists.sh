@@ -15,8 +15,8 @@ try_list() {
 		'line 5 refused 14 r s' 'line 6 failed v missing' 'line 7 failed v' 'line 8 failed v s s' 'line 9 refused 19 v 71' \
 		"$(sed -n 8p "$work/out")" 'pairs 8 explained 2 unexplained 1 refused 2 failed 3' "$unchecked"
 	case $(sed -n 8p "$work/out") in 'line 10 explained base 0x00512000 settings 8 strays 0 bits 29 v released') ;; *) fail "the last pair" ;; esac
-	says "$(run audit r s 2>&1 >/dev/null || :)" 'pajurenda: missing: No such file or directory' 'pajurenda: list: line 7: two names are wanted: VENDOR SHIPPED' \
-		'pajurenda: list: line 8: two names are wanted: VENDOR SHIPPED' "$(run audit v 71 2>&1 >/dev/null || :)"
+	says "$(run audit r s 2>&1 >/dev/null || :)" 'pajurenda: missing: No such file or directory' 'pajurenda: list: line 7: two names are wanted: VENDOR SHIPPED, or RECORD SHIPPED' \
+		'pajurenda: list: line 8: two names are wanted: VENDOR SHIPPED, or RECORD SHIPPED' "$(run audit v 71 2>&1 >/dev/null || :)"
 	cd "$root"
 }
 
@@ -50,8 +50,9 @@ try_verify_list() {
 	try 2 verify --list list
 	prints 'line 1 as released base 0x00512000 settings 0 strays 0 bits 0 v one.sheet two.sheet released' \
 		'line 2 not as released base 0x00512000 settings 1 strays 0 bits 3 v two.sheet one.sheet released' 'line 3 failed v one.sheet' \
-		'line 4 refused 15 v one.sheet 71 released' 'line 5 refused 19 v one.sheet 71' 'pairs 5 as released 1 not as released 1 refused 2 failed 1'
-	grep -qx 'pajurenda: list: line 3: three names or more are wanted: VENDOR SHEET.. SHIPPED' "$work/err" || fail "the line with two names"
+		'line 4 refused 15 v one.sheet 71 released' 'line 5 refused 19 v one.sheet 71' 'pairs 5 as released 1 not as released 1 refused 2 failed 1' "$unbased"
+	grep -qF 'pajurenda: verify: v is no release record, and without one three words or more are wanted: VENDOR SHEET.. SHIPPED' "$work/err" ||
+		fail "the line with two names"
 	list "$(awk 'BEGIN { printf "v"; for (n = 0; n < 253; n++) printf " one.sheet"; print " first" }')"
 	works 0 verify --list list
 	list "$(awk 'BEGIN { printf "v"; for (n = 0; n < 300; n++) printf " one.sheet"; print " first" }')"
@@ -104,8 +105,8 @@ try_list_words() {
 		# shellcheck disable=SC2086
 		keeps "$i" fails_with 'pajurenda: audit: with --list the pages go to a folder: --reports FOLDER (see pajurenda audit --help)' audit --list list $option
 	done
-	for option in --bytes --ranges --json; do
-		fails_with 'pajurenda: audit: --list has a line for each pair: no other form goes with it (see pajurenda audit --help)' audit --list list $option
+	for option in --bytes --ranges; do
+		fails_with 'pajurenda: audit: --list has a line for each pair: no other form but --json goes with it (see pajurenda audit --help)' audit --list list $option
 	done
 	unheard audit --list list
 	cd "$root"
@@ -133,7 +134,7 @@ try_list_pages() {
 	rm pages/*
 	works 0 verify --reports=pages --list=list
 	page_of pages/line-1-released.html
-	page_says 'title Verify: as released'
+	page_says 'title Verify: as released, owners and base not checked'
 	rm pages/*
 	mkdir pages/line-2-s.html pages/line-4-s.html
 	list 'v v' 'v s' 'v s' 'r s'
@@ -156,7 +157,7 @@ try_list_pages() {
 # how far it is, on standard error where that is a terminal and nowhere else
 try_progress() {
 	cd "$i"
-	list 'v v' '' 'v missing' 'v s'
+	list 'v released' '' 'v missing' 'v s'
 	try 2 audit --list list
 	! grep -q "$(printf '\033')" "$work/out" "$work/err" || fail "progress where there is no terminal"
 	passed

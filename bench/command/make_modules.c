@@ -2,6 +2,7 @@
  * The maker of images with modules for modules.sh, and of what the command must say of them.
  * make_modules three|inside IMAGE: the image; the lines of `read --modules --words` on it after the first eleven, to standard output.
  * make_modules many IMAGE: 64 modules with 30,000 relocation words in 1 MiB; no line.
+ * make_modules endless IMAGE: 4 MiB that a reading takes minutes for; no line.
  */
 #include <inttypes.h>
 #include <string.h>
@@ -22,7 +23,7 @@ struct made {
 
 static struct made made[MOST_INNER];
 static unsigned count;
-static uint64_t open_at;
+static uint64_t open_at, named;
 
 /* ---- the images ---- */
 
@@ -48,6 +49,15 @@ static void finish(void)
 	lay_blocks(&made[count].m);
 	made[count].at = module_add(&made[count].m);
 	count++;
+}
+
+/* The name of the open file, for people: 16 bits a letter, and a 0. */
+static void add_name(uint64_t section)
+{
+	static const char name[] = "Core";
+	for (uint64_t k = 0; k < sizeof name; k++)
+		put(section + SECTION_HEADER + 2 * k, 2, (uint64_t)name[k]);
+	named = open_at;
 }
 
 /* Raw bytes in a file of its own; the first one's place. */
@@ -81,7 +91,7 @@ static void make_three(void)
 	add(8, 20);
 	add(4, 28);
 	finish();
-	section_add(HOLDS_NAME, 10);
+	add_name(section_add(HOLDS_NAME, 10));
 	begin(KIND_PE32, 0xFFF90000, 64);
 	add(4, 24);
 	add(4, 12);
@@ -135,6 +145,7 @@ static void print_modules(void)
 	for (unsigned i = 0; i < count; i++) {
 		printf("module %u file ", i);
 		print_guid(made[i].file);
+		printf("%s", made[i].file == named ? " name \"Core\"" : "");
 		printf(" section %" PRIu64 " kind %s place %" PRIu64 " length %" PRIu64 " image base 0x%0*" PRIX64
 		       " relocation words %" PRIu64 "\n", made[i].at - SECTION_HEADER, kinds[made[i].m.kind], made[i].at,
 		       made[i].m.size, (int)(2 * base_width(made[i].m.kind)), made[i].m.base, made[i].words);
@@ -186,13 +197,19 @@ static void write_image(const char *name, const uint8_t *bytes, uint64_t length)
 
 int main(int words, char **word)
 {
-	static uint8_t large_image[1048576];
+	static uint8_t large_image[4194304];
 	struct large large;
 	if (words != 3)
 		return 2;
 	if (strcmp(word[1], "many") == 0) {
-		plan_large(&large, sizeof large_image, 16);
+		plan_large(&large, 1048576, 16);
 		large_modules(&large, large_image, 64, 30000, false);
+		write_image(word[2], large_image, 1048576);
+		return 0;
+	}
+	if (strcmp(word[1], "endless") == 0) {
+		plan_large(&large, sizeof large_image, 0);
+		hostile[hostiles - 1].make(&large, large_image);
 		write_image(word[2], large_image, sizeof large_image);
 		return 0;
 	}

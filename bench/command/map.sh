@@ -101,8 +101,11 @@ try_sizes() {
 cat >"$work/map.py" <<'END'
 import json, re, sys
 document = json.load(sys.stdin)
-common = ["command", "file", "number", "name"]
+for member in ("format", "tool", "files"):
+    del document[member]
+common = ["command", "file", "number", "name", "refusal"]
 assert document["command"] == "map"
+assert (document["number"] == 0) == (document["refusal"] is None)
 if document["number"] != 0:
     assert list(document) == common, list(document)
     sys.exit(print("refused %d" % document["number"]))
@@ -137,16 +140,37 @@ map_is() { document_is map "$work/map.py" "$@"; }
 try_map_json() {
 	memory 0:1000:9000 5:5000:800 >"$i/d"
 	works 0 map --json "$i/d"
-	prints '{' '  "command": "map",' "  \"file\": \"$i/d\"," '  "number": 0,' '  "name": "ACCEPTED",' '  "free": [' \
+	sed -i '2,7d' "$work/out"
+	prints '{' "  \"file\": \"$i/d\"," '  "number": 0,' '  "name": "ACCEPTED",' '  "refusal": null,' '  "free": [' \
 		'    {"first": "0x00001000", "last": "0x00004FFF", "size": "0x00004000"},' \
 		'    {"first": "0x00005800", "last": "0x00009FFF", "size": "0x00004800"}' '  ],' '  "reserved": [' \
 		'    {"place": 104, "start": "0x00005000", "size": "0x00000800", "taken": [{"first": "0x00005000", "last": "0x000057FF", "size": "0x00000800"}]}' \
 		'  ]' '}'
 	memory >"$i/d"
 	works 0 map --json "$i/d"
-	prints '{' '  "command": "map",' "  \"file\": \"$i/d\"," '  "number": 0,' '  "name": "ACCEPTED",' '  "free": [],' '  "reserved": []' '}'
+	sed -i '2,7d' "$work/out"
+	prints '{' "  \"file\": \"$i/d\"," '  "number": 0,' '  "name": "ACCEPTED",' '  "refusal": null,' '  "free": [],' '  "reserved": []' '}'
 	for list in map all two; do map_is "$i/$list" 0; done
 	map_is "$work/empty" 2
+}
+
+# the document of a place: of a size, of an image, and of each refusal, by the dump or by the image
+try_place_json() {
+	works 0 place --json "$i/map" 0x3001
+	sed -i '2,7d' "$work/out"
+	prints '{' "  \"file\": \"$i/map\"," '  "image": null,' '  "number": 0,' '  "name": "ACCEPTED",' '  "index": 0,' '  "refusal": null,' '  "size": 12289,' \
+		'  "base": "0x00006000"' '}'
+	works 0 place --json "$i/map" "$vendor"
+	grep -qxF "  \"image\": \"$vendor\"," "$work/out" || fail "no image"
+	grep -qxF '  "size": 8192,' "$work/out" || fail "no size"
+	grep -qxF '  "base": "0x00002000"' "$work/out" || fail "no base"
+	for words in "37 $i/map 26625" "36 $i/map 0" "32 $work/empty 1" "14 $i/map $refused"; do
+		# shellcheck disable=SC2086
+		try 2 place --json ${words#* }
+		grep -qxF "  \"number\": ${words%% *}," "$work/out" || fail "not refused with ${words%% *}"
+		! grep -q '^refused' "$work/out" || fail "a line beside the document"
+		passed
+	done
 }
 
 # ---- refusals ----
@@ -270,7 +294,7 @@ try_map_words() {
 	fails_with "pajurenda: place: DUMP and IMAGE|SIZE are missing $see_place" place
 	fails_with "pajurenda: place: IMAGE|SIZE is missing $see_place" place "$i/map"
 	fails_with "pajurenda: place: one word too many: \"c\" $see_place" place "$i/map" 1 c
-	fails_with "pajurenda: place: takes no option --json $see_place" place --json "$i/map" 1
+	fails_with "pajurenda: place: takes no option --base $see_place" place --base 0x0 "$i/map" 1
 	no_size='is not a number: write hex as 0x00512000, decimal without a leading 0'
 	fails_with "pajurenda: place: SIZE \"64K\" $no_size" place "$i/map" 64K
 	fails_with 'pajurenda: place: SIZE "010" starts with 0: write 0x010 for hex or 10 for decimal' place "$i/map" 010
@@ -286,12 +310,14 @@ try_map_words() {
 	unheard map --json "$i/map"
 	unheard map "$work/empty"
 	unheard place "$i/map" 1
+	unheard place --json "$i/map" 1
 	unheard place "$i/map" 0
 }
 
 try_map
 try_sizes
 try_map_json
+try_place_json
 try_map_refused
 try_place
 try_place_image

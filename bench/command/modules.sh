@@ -5,7 +5,8 @@
 # The image `three`: the header file at 72, a pad file, a file with a TE module at 296 (its section at 292) and a PE32 module at 516, the region at 936
 # with 96 bytes, a raw file, a file at 1096 with a PE32+ module at 1124, the free end from 1528 to 1552. Its patch entries stand at 184, 188, 192.
 
-driver=33CB97A0-F0AF-FE68-751E-4F808F80E8A7
+driver_file=33CB97A0-F0AF-FE68-751E-4F808F80E8A7
+driver="\"Core\" $driver_file"
 peim=E032BC88-5958-2470-4DD0-682A4FF7C3C2
 
 make_modules() {
@@ -23,7 +24,7 @@ listed() {
 	filter=$1
 	shift
 	works 0 read "$@" "$i/$name"
-	sed 1,11d "$work/out" >"$work/rest"
+	sed '1,11d; /^volume /d; /^bytes at /d' "$work/out" >"$work/rest"
 	# shellcheck disable=SC2086
 	grep -e '^modules ' -e '^words ' $filter "$work/$name.lines" >"$work/wanted"
 	same "$work/rest" "$work/wanted"
@@ -40,10 +41,10 @@ try_module_lists() {
 	[ "$(grep -c ^ "$work/three.lines")" -eq 20 ] || fail "other lines of the maker"
 	for words in --modules --words; do
 		works 0 read "$words" "$vendor"
-		[ "$(sed -n 12p "$work/out")" = 'modules 0' ] || fail "modules where there is none"
-		[ "$(sed -n 13p "$work/out")" = 'words 5 (base word 1, patch words 4, image bases 0, relocation words 0)' ] || fail "other words"
+		[ "$(sed -n 13p "$work/out")" = 'modules 0' ] || fail "modules where there is none"
+		[ "$(sed -n 14p "$work/out")" = 'words 5 (base word 1, patch words 4, image bases 0, relocation words 0)' ] || fail "other words"
 	done
-	[ "$(sed 1,13d "$work/out" | wc -l)" -eq 5 ] || fail "other words of the sample"
+	[ "$(sed 1,14d "$work/out" | wc -l)" -eq 5 ] || fail "other words of the sample"
 	passed
 }
 
@@ -69,15 +70,35 @@ try_module_many() {
 	[ "$(grep -c '^module [0-9]* file ' "$work/out")" -eq 64 ] || fail "not 64 modules"
 	[ "$(grep -c '^module [0-9]* relocation word [0-9]* at ' "$work/out")" -eq 30000 ] || fail "not 30000 relocation words"
 	grep -qx 'words 30081 (base word 1, patch words 16, image bases 64, relocation words 30000)' "$work/out" || fail "other counts"
-	[ "$(wc -l <"$work/out")" -eq $((13 + 64 + 30081)) ] || fail "other lines"
+	[ "$(wc -l <"$work/out")" -eq $((14 + 64 + 30081)) ] || fail "other lines"
 	passed
 	unheard read --words "$i/many"
+	enough read --words "$i/many"
 	unheard read --json --words "$i/many"
-	what='read --words into head'
-	got=0
-	{ run read --words "$i/many" 2>"$work/err" || echo $? >"$work/status"; } | head -n 1 >"$work/out"
-	[ "$(cat "$work/status")" -eq 2 ] || fail "exit status $(cat "$work/status") where the reader has gone"
-	tells 'standard output'
+}
+
+# an image that takes minutes: each command ends in its time, in words, and nothing is written; those before it in a list are told
+try_module_endless() {
+	"$work/make_modules" endless "$i/endless" || fail "it ended with $?"
+	cd "$i"
+	late='no answer after 1 second of the processor'"'s"' time: an ordinary image takes less than one, so this is no ordinary image; nothing was written (--seconds N allows more, 0 any)'
+	keeps "$o" fails_with "pajurenda: read: $late" read --seconds 1 endless
+	keeps "$o" fails_with "pajurenda: sheet empty: $late" --seconds=1 sheet empty endless "$o/none"
+	keeps "$o" fails_with "pajurenda: release: $late" release "$all" --owner 1 endless "$work/nothing" keep "$o/none" --seconds 1
+	keeps "$o" fails_with "pajurenda: audit: $late" audit --report "$o/none" --seconds 1 endless endless
+	echo "$vendor $shipped
+endless endless
+$vendor $shipped" >list
+	try 2 audit --seconds 1 --list list
+	[ "$(sed 's/ base .*//' "$work/out")" = 'line 1 unexplained' ] || fail "the first line isn't there, or another is"
+	says "pajurenda: audit: line 2 of the list: $late"
+	rm endless list
+	works 0 read --seconds 0 "$vendor"
+	works 0 read --seconds 18446744073709551615 "$vendor"
+	fails_with 'pajurenda: read: --seconds "x" is not a number: write hex as 0x00512000, decimal without a leading 0' read --seconds x "$vendor"
+	fails_with 'pajurenda: read: --seconds has no N after it (see pajurenda read --help)' read "$vendor" --seconds
+	fails_with 'pajurenda: read: --seconds is given twice (see pajurenda read --help)' read --seconds 1 --seconds 2 "$vendor"
+	cd "$root"
 }
 
 # moved there and back every word of 4 and of 8 bytes has changed by the move, and no other byte
@@ -87,7 +108,7 @@ try_module_move() {
 	works 0 owners all three three.own
 	works 0 release --owners three.own --owner 1 three three.sheet 0x00100000 three.moved
 	works 0 audit three three.moved
-	prints 'base 0x00100000' 'settings 0' 'strays 0' 'bits 0' 'verdict explained' "$unchecked"
+	prints 'base 0x00100000' "settings 0 $of_maker" 'strays 0' 'bits 0' 'verdict explained' "$unchecked"
 	works 0 read --words three.moved
 	sed -n 's/^module \([0-9]*\) image base.* is //p; s/^module 0 relocation word 1 .* is //p; s/^patch word 2 .* is //p' "$work/out" >"$work/shown"
 	lines 0xEEE1A47F 0x0000000000100100 0xFFFFFFFF0017FFEF 0x00110000 0x0000000100100000
@@ -144,15 +165,15 @@ try_module_reports() {
 X 1128..1128 length 1 module 2 $peim" ] || fail "other ranges"
 	works 1 audit --text t.text --report t.page three t
 	grep -q "^X 436..437 length 2 relocation word 1 in module 0 $driver maker's EF FF is F0 00\$" t.text || fail "another text"
-	for word in "relocation word 1 in module 0 $driver</td>" "<td class=\"at\">module 2 $peim</td>" '<dt>Modules</dt><dd>3</dd>' \
-		'<dt>Words that a move changes</dt><dd>15</dd>' '<tr><td>image base in module 2</td><td class="number">1236</td>' \
-		'0x0000000100100000' 'aria-label="Modules"'; do
+	for word in "relocation word 1 in module 0 &#34;Core&#34; $driver_file</td>" "<td class=\"where\">module 2 $peim</td>" '<dt>Modules</dt><dd>3</dd>' \
+		'<dt>Words that a move changes</dt><dd>15</dd>' '<p class="count-right">14 of 15 words are what' \
+		'<td class="number">436</td><td class="bytes">' 'aria-label="Modules"'; do
 		grep -qF -e "$word" t.page || fail "the page has no $word"
 		passed
 	done
 	works 1 audit --json three t
-	grep -qF "\"place\": \"relocation word\", \"offset\": null, \"index\": 1, \"module\": 0, \"file\": \"$driver\"" "$work/out" || fail "another range in the document"
-	grep -qF "\"place\": \"module\", \"offset\": null, \"index\": null, \"module\": 2, \"file\": \"$peim\"" "$work/out" || fail "another module in the document"
+	grep -qF "\"place\": \"relocation word\", \"offset\": null, \"index\": 1, \"field\": null, \"module\": 0, \"module_name\": \"Core\", \"file\": \"$driver_file\"" "$work/out" || fail "another range in the document"
+	grep -qF "\"place\": \"module\", \"offset\": null, \"index\": null, \"field\": null, \"module\": 2, \"module_name\": null, \"file\": \"$peim\"" "$work/out" || fail "another module in the document"
 	cd "$root"
 }
 
@@ -167,10 +188,10 @@ bases = [word for word in inner if word["kind"] == "image base"]
 print("modules %d\nwords %d (base word 1, patch words %d, image bases %d, relocation words %d)" % (d["modules"], d["words"], n, len(bases), d["relocation_words"]))
 assert len(bases) == d["modules"] == len(d["module_list"]) and d["words"] == 1 + n + len(inner) and len(inner) - len(bases) == d["relocation_words"]
 for k, m in enumerate(d["module_list"]):
-    assert list(m) == ["index", "file", "file_place", "section", "kind", "place", "length", "image_base", "relocation_words"] and m["index"] == k
+    assert list(m) == ["index", "name", "file", "file_place", "section", "kind", "place", "length", "image_base", "relocation_words"] and m["index"] == k
     assert m["file_place"] + 24 <= m["section"] == m["place"] - 4
-    print("module %d file %s section %d kind %s place %d length %d image base %s relocation words %d" % tuple(m[key] for key in
-          ("index", "file", "section", "kind", "place", "length", "image_base", "relocation_words")))
+    print("module %d file %s%s section %d kind %s place %d length %d image base %s relocation words %d" % (m["index"], m["file"],
+          ' name "%s"' % m["name"] if m["name"] else "", *(m[key] for key in ("section", "kind", "place", "length", "image_base", "relocation_words"))))
 def line(start, word):
     assert len(word["value"]) == 2 + 2 * word["width"]
     print("%s at %d width %d is %s" % (start, word["place"], word["width"], word["value"]))
@@ -183,7 +204,7 @@ for word in inner:
 PYTHON
 	for name in three inside many; do
 		works 0 read --words --modules "$i/$name"
-		sed 1,11d "$work/out" >"$work/wanted_lines"
+		sed '1,11d; /^volume /d; /^bytes at /d' "$work/out" >"$work/wanted_lines"
 		works 0 read --json --words --modules "$i/$name"
 		"$python" -I -S "$work/modules.py" <"$work/out" >"$work/again" 2>"$work/err" || fail "another document"
 		same "$work/again" "$work/wanted_lines"
@@ -196,8 +217,8 @@ PYTHON
 # three_with POSITION OCTAL..: the image `three` with bytes put into it, as b
 three_with() { poked three b "$@"; }
 
-module_0="module 0 (counted from 0), TE, file $driver, section 292, place 296, length 200"
-module_1="module 1 (counted from 0), PE32, file $driver, section 512, place 516, length 392"
+module_0="module 0 (counted from 0), TE, file $driver_file, section 292, place 296, length 200"
+module_1="module 1 (counted from 0), PE32, file $driver_file, section 512, place 516, length 392"
 module_2="module 2 (counted from 0), PE32, file $peim, section 1120, place 1124, length 404"
 
 # 25: the file, the section or the module; the values that decided
@@ -240,7 +261,7 @@ try_module_calls() {
 		esac
 		try 2 read --json b
 		grep -qx "  \"number\": $number," "$work/out" || fail "no number in the document"
-		grep -qx '  "index": 0' "$work/out" || fail "an index"
+		grep -qx '  "index": 0,' "$work/out" || fail "an index"
 		tells "b: refused $number $(name_of "$number"): "
 	done
 }
@@ -256,7 +277,7 @@ try_module_26_27() {
 	three_with 192 '\110\004'
 	values 26 b 'no module is at fault, files 6 up to 1528, V 1552, patch entry 2 (counted from 0) points to 1096' read b
 	three_with 192 '\377\005'
-	values 26 b 'no module is at fault, files 6 up to 1528, V 1552, patch entry 2 (counted from 0) points to 1535' read b
+	values 26 b 'no module is at fault, files 6 up to 1528, V 1552, patch entry 2 (counted from 0) points to 1535, in the free end from 1528 to V 1552' read b
 	three_with 489 '\102'
 	values 27 b "$module_0" read b
 }
@@ -265,6 +286,7 @@ if make_modules; then
 	try_module_lists
 	try_module_cut
 	try_module_many
+	try_module_endless
 	try_module_move
 	try_module_ranges
 	try_module_around_region

@@ -199,7 +199,7 @@ try_must_show() {
 try_must_held() {
 	{ cat plain && printf 'base any\n0x28 01 05\n0x128 = 0x01 : 1\n'; } >must
 	works 0 audit --must must A A
-	prints 'base 0xFFF80000' 'settings 0' 'strays 0' 'bits 0' "must base any, is 0xFFF80000, maker's 0xFFF80000: held" \
+	prints 'base 0xFFF80000' "settings 0 $of_maker" 'strays 0' 'bits 0' "must base any, is 0xFFF80000, maker's 0xFFF80000: held" \
 		"must 0x0028 at 4136 01 05 = 0x0501, is 01 05 = 0x0501, maker's 01 05 = 0x0501: held" "must 0x0128 at 4392 01, is 01, maker's 01: held" \
 		'verdict explained, as required'
 	poked A changed 4137 '\004'
@@ -234,7 +234,7 @@ d = json.load(sys.stdin)
 held = sys.argv[1] == "0"
 assert list(d)[-4:] == ["must", "required", "not_checked", "verdict"], list(d)
 assert d["names"] == {"file": "names", "count": 6, "passed": 0, "compared": 2, "differ": 0, "first": []}, d["names"]
-assert d["required"] == ("as required" if held else "not as required") and d["not_checked"] is None
+assert d["required"] == ("as required" if held else "not as required") and (d["command"] == "verify" or d["not_checked"] is None)
 assert d["must"]["base"] == {"must": None, "is": "0xFFF80000", "makers": "0xFFF80000", "held": True}
 assert d["must"]["settings"] == [{"line": 5, "offset": 296, "place": 4392, "length": 1, "name": "BypassRelay", "must": "00", "is": "00" if held else "01",
     "makers": "01", "held": held}], d["must"]

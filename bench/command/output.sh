@@ -1,7 +1,25 @@
 # shellcheck shell=sh disable=SC2034,SC2154,SC2162,SC2164
 # Standard output that takes nothing.
 
-# unheard WORDS..: exit status 2 and a message where standard output is full, closed or a pipe nobody reads
+# whether a closed pipe ends a program here: whoever started this may have it ignored, and a shell can't undo that
+pipe_status=0
+sh -c 'kill -s PIPE $$' 2>/dev/null || pipe_status=$?
+[ "$pipe_status" -ne 0 ] || not_run="$not_run; the end by a closed pipe (it is ignored here)"
+
+# unread WORDS..: standard output is a pipe that nobody reads
+unread() {
+	rm -f "$work/closed"
+	{
+		while ! [ -e "$work/closed" ]; do sleep 0.02; done
+		got=0
+		run "$@" 2>"$work/err" || got=$?
+		echo "$got" >"$work/status"
+	} | { exec <&-; : >"$work/closed"; }
+	got=$(cat "$work/status")
+}
+
+# unheard WORDS..: exit status 2 and a message where standard output is full or closed; where it is a pipe nobody reads the signal's status and
+# silence, or where that signal is ignored the message
 unheard() {
 	what=$*
 	if [ -c /dev/full ]; then
@@ -14,16 +32,29 @@ unheard() {
 	run "$@" >&- 2>"$work/err" || got=$?
 	status_was 2
 	tells 'pajurenda: standard output: Bad file descriptor'
-	rm -f "$work/closed"
-	{
-		while ! [ -e "$work/closed" ]; do sleep 0.02; done
-		got=0
-		run "$@" 2>"$work/err" || got=$?
-		echo "$got" >"$work/status"
-	} | { exec <&-; : >"$work/closed"; }
+	if [ "$pipe_status" -ne 0 ]; then
+		unread "$@"
+		status_was "$pipe_status"
+		! grep -qF 'standard output' "$work/err" || fail "not silent"
+	fi
+	(
+		trap '' PIPE
+		unread "$@"
+		status_was 2
+		tells 'pajurenda: standard output: Broken pipe'
+	) || exit 1
+	passed
+}
+
+# enough WORDS..: a reader that has seen enough of a long output; the end is quiet
+enough() {
+	[ "$pipe_status" -ne 0 ] || return 0
+	what="$*, and one line of it"
+	{ got=0; run "$@" 2>"$work/err" || got=$?; echo "$got" >"$work/status"; } | head -n 1 >"$work/out"
 	got=$(cat "$work/status")
-	status_was 2
-	tells 'pajurenda: standard output: Broken pipe'
+	status_was "$pipe_status"
+	says
+	[ "$(wc -l <"$work/out")" -eq 1 ] || fail "not one line"
 }
 
 try_unheard() {

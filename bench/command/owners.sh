@@ -105,7 +105,7 @@ try_owner_places() {
 		rm "./$name"
 	done
 	cp l ./-
-	released_by release --owners - --owner 1 v good keep "$o/by"
+	released_by release --owners ./- --owner 1 v good keep "$o/by"
 	rm ./-
 	what='release --owners /dev/stdin, a pipe'
 	got=0
@@ -384,7 +384,7 @@ try_owner_texts() {
 	no_list 1 'owner "65536" does not fit 16 bits' '40 2 65536'
 	no_list 1 'owner "65538" does not fit 16 bits' '40 2 65538'
 	no_list 1 'owner "18446744073709551618" does not fit 16 bits' '40 2 18446744073709551618'
-	no_list 1 "offset \"$(printf '\377\377\377\377\377\377\377\377')\" $how" '\377\377\377\377\377\377\377\377'
+	no_list 1 "offset \"????????\" $how" '\377\377\377\377\377\377\377\377'
 	no_list 1 'length and owner are missing: write offset length owner' '12345678'
 }
 

@@ -34,7 +34,7 @@ try_no_ranges() {
 
 try_sample_ranges() {
 	ranges_are "$vendor" "$shipped" 1 'S 4136..4136 length 1 region offset 0x0028' 'X 5000..5000 length 1 patch word 1'
-	prints 'base 0x00100000' 'settings 1' 'strays 1' 'bits 1' 'S 4136' 'X 5000' 'verdict unexplained'
+	prints 'base 0x00100000' "settings 1 $of_maker" 'strays 1' 'bits 1' 'S 4136' 'X 5000' 'verdict unexplained'
 }
 
 # from before the FSP header to after the tables; the base word itself never differs, as the reference is moved to it
@@ -43,8 +43,15 @@ try_table_ranges() {
 	flip "$i/t" 98 127
 	flip "$i/t" 132 201
 	flip "$i/t" 0 0
-	ranges_are "$vendor" "$i/t" 1 'X 0..0 length 1 elsewhere' 'X 98..99 length 2 elsewhere' 'X 100..127 length 28 tables' \
-		'X 132..199 length 68 tables' 'X 200..201 length 2 elsewhere'
+	ranges_are "$vendor" "$i/t" 1 'X 0..0 length 1 elsewhere' 'X 98..99 length 2 elsewhere' 'X 100..103 length 4 tables: header mark' \
+		'X 104..107 length 4 tables: header length' 'X 108..109 length 2 tables: reserved' 'X 110..110 length 1 tables: specification version' \
+		'X 111..111 length 1 tables: header revision' 'X 112..115 length 4 tables: image revision' 'X 116..123 length 8 tables: identity' \
+		'X 124..127 length 4 tables: image size' 'X 132..133 length 2 tables: image attributes' 'X 134..135 length 2 tables: component' \
+		'X 136..139 length 4 tables: region position' 'X 140..143 length 4 tables: region size' 'X 144..147 length 4 tables: reserved' \
+		'X 148..151 length 4 tables: TempRamInit entry' 'X 152..155 length 4 tables: reserved' 'X 156..159 length 4 tables: NotifyPhase entry' \
+		'X 160..163 length 4 tables: MemoryInit entry' 'X 164..167 length 4 tables: TempRamExit entry' 'X 168..171 length 4 tables: SiliconInit entry' \
+		"X 172..183 length 12 tables: patch table's header" 'X 184..187 length 4 tables: patch entry 0' 'X 188..191 length 4 tables: patch entry 1' \
+		'X 192..195 length 4 tables: patch entry 2' 'X 196..199 length 4 tables: patch entry 3' 'X 200..201 length 2 elsewhere'
 }
 
 # into the region, through its header into the settings, and out of it over a patch word

@@ -92,6 +92,8 @@ def check_head(root):
 def ranges_of(root, text):
     """(kind, first, last) of each: setting, sheet, other, stray."""
     for line in text or []:
+        if line.startswith("W "):
+            continue
         kind, first, last, rest = re.match(r"([SX]) (\d+)\.\.(\d+) length \d+ (.*)", line).groups()
         if kind == "X":
             yield "strays", int(first), int(last)
@@ -134,10 +136,10 @@ def check_marks(lane, start, length, wanted, name):
 def check_maps(root, ranges, facts):
     length = int(facts["length"])
     stretches = [("image", 0, length)]
-    if "Edition" in facts:
-        assert facts["Edition"] == "1" and not [node for node in root.all("div", "map") if node.attributes["id"] == "region"]
-    else:
+    if "Region at" in facts:
         stretches.append(("region", int(facts["Region at"]), int(facts["Region's bytes"])))
+    else:
+        assert not [node for node in root.all("div", "map") if node.attributes["id"] == "region"]
     for name, start, stretch in stretches:
         map_of = [node for node in root.all("div", "map") if node.attributes["id"] == name]
         assert len(map_of) == 1
@@ -152,21 +154,40 @@ def check_maps(root, ranges, facts):
 def main(page, text=None):
     root = read(page)
     check_head(root)
-    print("title " + root.one("head").one("title").text())
-    print("h1 " + root.one("h1").text())
-    made = re.fullmatch(r"Made on (\d{4}-\d\d-\d\d \d\d:\d\d:\d\d UTC) by pajurenda (\S+), proved with (.+)\.", root.one("p", "made").text())
+    title, name = root.one("head").one("title").text(), root.one("h1").text()
+    assert title.endswith(": " + re.sub(r"U\+[0-9A-F]{4,}", "?", name)), (title, name)
+    print("title " + title[:-2 - len(re.sub(r"U\+[0-9A-F]{4,}", "?", name))])
+    print("h1 " + name)
+    made = re.fullmatch(r"Made on (\d{4}-\d\d-\d\d \d\d:\d\d:\d\d UTC) by (.*\(\d+\)) on (.+), with pajurenda (\S+)\.", root.one("p", "made").text())
     assert made, root.one("p", "made").text()
-    print("by %s %s" % made.groups()[1:])
+    print("user %s host %s" % made.groups()[1:3])
+    about = {fact.one("dt").text(): fact.one("dd").text() for fact in root.one("dl", "about").all("div")}
+    print("by %s %s" % (made.group(4), about["Library proved with"]))
+    assert re.fullmatch("[0-9a-f]{64}|unknown archive", about["SHA-256 of the library's archive"]), about
+    for kind in ("report-number", "remark"):
+        for given in root.all("p", kind):
+            print(kind + " " + given.text())
     verdict = root.one("section", "verdict")
     print("verdict %s (%s)" % (verdict.one("p", "word").text(), verdict.attributes["class"].split()[1]))
     print("because " + list(verdict.all("p"))[1].text())
+    for values in verdict.all("p", "values"):
+        print("values " + values.text())
     for open_one in verdict.all("p", "unchecked"):
         print("unchecked " + open_one.text())
     for naming in root.all("section", "naming"):
         for line in naming.all("p"):
             print("naming " + line.text())
     for row in list(root.one("table", "files").all("tr"))[1:]:
+        for path in row.all("div", "path"):
+            print("path %s|%s" % (next(row.all("td")).text(), path.text()))
+            path.parent.children.remove(path)
         print("file " + "|".join(cell.text() for cell in row.all("td")))
+    parts = [node for node in root.one("main").children if isinstance(node, Node)]
+    order = [node.tag if node.tag == "header" else node.attributes.get("class", "").split(" ")[0] or node.one("h2").text() for node in parts]
+    print("order " + ", ".join(order))
+    assert [node.tag for node in root.one("div", "signed").children if isinstance(node, Node)] == ["section", "section"]
+    for count in root.all("p", "count-right"):
+        print("right " + count.text())
     facts = {}
     for pair in root.all("dl"):
         for fact in pair.all("div"):
@@ -181,7 +202,7 @@ def main(page, text=None):
     for note in root.all("p", "note"):
         if note.text().startswith("…"):
             print("rest " + note.text())
-    if facts:
+    if "FSP header at" in facts:
         facts["length"] = list(root.one("table", "files").all("tr"))[1].one("td", "number").text()
         whole = None
         if text is not None:

@@ -118,7 +118,7 @@ try_component() {
 	image b 135 '\000'
 	refuses 7 b 'the component must be 1 (T), 2 (M), 3 (S) or 4 (I): it is 0' read b
 	image b 135 '\200'
-	values 7 b 'it is 8' read b
+	values 7 b 'it is 8, OEM' read b
 }
 
 try_own_base() {
@@ -134,7 +134,7 @@ try_table() {
 	image b 175 E
 	values 9 b 'FSPE at 172 of length 65560, mark past the file'"'"'s end at p 65732, the section ends at 200' read b
 	image b 175 X
-	refuses 9 b "$rule_table: mark \"FSPX\" at p 172, revision 1, n 4, E 200, the section ends at 200" read b
+	refuses 9 b "$rule_table: mark \"FSPX\" at p 172: another table stands there, and no FSPP after it, the section ends at 200" read b
 	image b 178 '\002'
 	values 9 b 'mark "FSPP" at p 172, revision 2, n 4, E 200, the section ends at 200' read b
 	image b 180 '\005'
@@ -269,9 +269,9 @@ try_new_bases() {
 	keeps "$o" refuses 18 v "the new base $rule_base: 0xFFFFFFFFFFFFFFFF for 8192 bytes" release "$all" --owner=1 v "$work/nothing" 0xffffffffffffffff "$o/out"
 	keeps "$o" refuses 18 v "the new base $rule_base: 0x00000001 for 8192 bytes" release "$all" --owner=1 v "$work/nothing" 0x1 "$o/none"
 	poked s b 128 '\001'
-	refuses 18 b "the shipped file's base $rule_base: 0x00100001 for 8192 bytes" audit v b
+	refuses 18 b "the shipped file's base $rule_base: 0x00100001 for 8192 bytes; 3 of 4 other words agree on base 0x00100000" audit v b
 	poked s b 128 '\000\360\377\377'
-	refuses 18 b "the shipped file's base $rule_base: 0xFFFFF000 for 8192 bytes" audit --ranges v b
+	refuses 18 b "the shipped file's base $rule_base: 0xFFFFF000 for 8192 bytes; 3 of 4 other words agree on base 0x00100000" audit --ranges v b
 }
 
 # a release that is wrong in several ways: the image's own, then the sheet's form, its image, its fields, then the base

@@ -19,8 +19,6 @@ page_says() {
 	done
 }
 
-digest_of() { sha256sum <"$1" | cut -d ' ' -f 1; }
-
 # reported STATUS WORDS..: with --report and --text the lines are the same, and the page's ranges are those of the text
 reported() {
 	works "$@"
@@ -34,9 +32,9 @@ reported() {
 	[ -n "$python" ] || return 0
 	sed -n 's/^ranges //p' "$work/page" | sed 's/^\(.\) [a-z]*|\([^|]*\)|\([^|]*\)|\([^|]*\)|\([^|]*\)|\([^|]*\).*/\1 \2 length \3 \4 should \5 is \6/' |
 		grep -v ' more' | tr -d ' ' >"$work/rows"
-	sed "s/, .*//; s/ maker's / should /" whole | awk '{ split($2, ends, "[.][.]"); if (ends[2] - ends[1] < 24) print }' | tr -d ' ' >"$work/wanted_rows"
+	sed "/^W /d; s/, .*//; s/ maker's / should /" whole | awk '{ split($2, ends, "[.][.]"); if (ends[2] - ends[1] < 24) print }' | tr -d ' ' >"$work/wanted_rows"
 	same "$work/rows" "$work/wanted_rows"
-	page_says "file Maker's image|$vendor|8192|$(digest_of "$vendor")" "file Whole list|whole|$(wc -c <whole)|$(digest_of whole)" \
+	page_says "file Given as the maker's image|$vendor|8192|$(digest_of "$vendor")" "file Whole list|whole|$(wc -c <whole)|$(digest_of whole)" \
 		"by $version $(run --version | sed -n 's/^proved with //p')"
 }
 
@@ -45,13 +43,24 @@ try_audit_page() {
 	reported 1 audit "$vendor" "$shipped"
 	page_says 'title Audit: unexplained' "h1 $shipped" 'verdict unexplained (bad)' \
 		'because 1 byte differs outside the settings, and neither the move nor a setting accounts for it.' \
-		"file Shipped file|$shipped|8192|$(digest_of "$shipped")" 'fact Component: T' 'fact Identity: 54524541542D3031 “TREAT-01”' \
-		'fact Revision: 0x01020304' 'fact Extended number: 0x0000' 'fact Version: 1.2.3.4' 'fact Base: 0xFFF80000' 'fact FSP header at: 100' \
-		'fact Patch entries: 4' 'fact Region at: 4096' "fact Region's bytes: 400" 'fact shipped Base: 0x00100000' 'fact Move: -4293394432' \
+		"file Shipped file|$shipped|8192|$(digest_of "$shipped")" 'selves Reads by itself|yes|yes|the same' 'selves Component|T|T|the same' \
+		'selves Identity|54524541542D3031 “TREAT-01”|54524541542D3031 “TREAT-01”|the same' 'selves Revision|0x01020304|0x01020304|the same' \
+		'selves Extended number|0x0000|0x0000|the same' 'selves Version|1.2.3.4|1.2.3.4|the same' \
+		'selves Base|0xFFF80000|0x00100000|moved by -4293394432, -0xFFE80000' 'fact FSP header at: 100' \
+		'fact Patch entries: 4' 'fact Region at: 4096' "fact Region's bytes: 400" \
+		"user $(id -un) ($(id -u)) host $(uname -n)" 'order header, verdict, Differences from the maker'"'"'s image moved, signed, behind' \
 		'fact Setting bytes that differ: 1' 'fact Bits of them: 1' 'fact Stray bytes: 1' 'ranges S setting|4136..4136|1|region offset 0x0028|01|00' \
-		'ranges X stray|5000..5000|1|patch word 1|4C|34' 'words base word|128|0xFFF80000|0x00100000|0x00100000' \
-		'words patch word 1|4998|0x12345678|0x124C5678|0x12345678' 'words patch word 3|8188|0xFFF81FF0|0x00101FF0|0x00101FF0' \
+		'ranges X stray|5000..5000|1|patch word 1|4C|34' 'right 4 of 5 words are what the move makes of them; --text FILE lists every one.' \
+		'words patch word 1|4998|0x12345678|0x124C5678|0x12345678 wrong' \
 		'marks image settings 1' 'marks image strays 1' 'marks region settings 1' 'marks region strays 0'
+	[ -z "$python" ] || [ "$(grep -c '^words ' "$work/page")" -eq 1 ] || fail "words that are right are listed"
+	grep '^W ' whole >"$work/rest"
+	lines 'W 128..131 length 4 base word maker'"'"'s 0xFFF80000 should 0x00100000 is 0x00100000 right' \
+		'W 4498..4501 length 4 patch word 0 maker'"'"'s 0xFFF80040 should 0x00100040 is 0x00100040 right' \
+		'W 4998..5001 length 4 patch word 1 maker'"'"'s 0x12345678 should 0x124C5678 is 0x12345678 wrong' \
+		'W 6001..6004 length 4 patch word 2 maker'"'"'s 0xFFFFFFFC should 0x0017FFFC is 0x0017FFFC right' \
+		'W 8188..8191 length 4 patch word 3 maker'"'"'s 0xFFF81FF0 should 0x00101FF0 is 0x00101FF0 right'
+	same "$work/rest" "$work/wanted"
 	reported 0 audit "$vendor" "$root/crates/run_explained/data/shipped.bin"
 	page_says 'title Audit: explained' 'verdict explained (open)' 'marks image strays 0'
 	reported 0 audit "$vendor" "$o/moved"
@@ -69,7 +78,7 @@ entry_12C='0x012C at 4396|3|11 22 33|67 8C B1'
 try_verify_page() {
 	cd "$i"
 	reported 0 verify "$vendor" one.sheet two.sheet released
-	page_says 'title Verify: as released' 'h1 released' 'verdict as released (good)' "file Sheet 1|one.sheet|$(wc -c <one.sheet)|$(digest_of one.sheet)" \
+	page_says 'title Verify: as released, owners and base not checked' 'h1 released' 'verdict as released, owners and base not checked (open)' "file Sheet 1|one.sheet|$(wc -c <one.sheet)|$(digest_of one.sheet)" \
 		"file Sheet 2|two.sheet|$(wc -c <two.sheet)|$(digest_of two.sheet)" 'entries 0|0x0028 at 4136|2|01 00 = 0x0001|01 05 = 0x0501|as set; in part set again by a later sheet' \
 		"entries 1|$entry_64|as set" 'entries 0|0x0029 at 4137|1|07|05|as set' "entries 2|$entry_12C|as set" \
 		'entries 1|0x00C8 at 4296|1|F3|F3|changes nothing' "because Byte for byte, the shipped file is what releasing the maker's image with the sheets below, in \
@@ -91,12 +100,52 @@ sets (1 still as the maker's), 2 in settings that no sheet sets, 1 outside the s
 	printf '40 2 1\n100 4 1\n' >own
 	try 0 verify --report page --owners own --owner 1 v one.sheet first
 	page_of page
-	page_says 'title Verify: as released' "file Owner list, 1 asks|own|15|$(digest_of own)"
+	page_says 'title Verify: as released, base not checked' "file Owner list, 1 asks for sheet 1|own|15|$(digest_of own)"
 	try 2 verify --report page --owners own --owner 2 v one.sheet first
 	page_of page
-	page_says 'title Verify: refused' "file Owner list, 2 asks|own|15|$(digest_of own)" \
+	page_says 'title Verify: refused' "file Owner list, 2 asks for sheet 1|own|15|$(digest_of own)" \
 		'because Refusal 24 OWNER of one.sheet: every byte that the sheet sets must be in a range of the owner who asks. Nothing was compared.'
 	rm b own page
+	cd "$root"
+}
+
+# ---- what it says of itself ----
+
+try_said_page() {
+	cd "$i"
+	try 1 audit --report page --number 'R-17 <b>' --note "as 'agreed'" v t
+	page_of page
+	page_says 'report-number Report R-17 <b>' "remark Note: as 'agreed'" "path Given as the maker's image|$(pwd -P)/v" "path Shipped file|$(pwd -P)/t"
+	grep -q "^fact Command line: .*pajurenda.* audit .*--report page --number 'R-17 <b>' --note 'as '\\\\''agreed'\\\\''' v t\$" "$work/page" || [ -z "$python" ] || fail "another line"
+	grep -q '^fact Proved, for every input: .*pajurenda_read .*pajurenda_contents .*pajurenda_release .*pajurenda_audit ' "$work/page" || [ -z "$python" ] ||
+		fail "it doesn't say what is proved"
+	grep -q '^fact Not checked: whether the file that is taken' "$work/page" || [ -z "$python" ] || fail "it doesn't say what wasn't checked"
+	works 0 audit --report page v v
+	page_of page
+	grep -q '^fact Not checked: whether the settings are the wanted ones; ' "$work/page" || [ -z "$python" ] || fail "it doesn't say what wasn't checked"
+	for words in '--note x v s' '--number 1 v s' '--note x --list list'; do
+		# shellcheck disable=SC2086
+		fails_with 'pajurenda: audit: --note and --number are for the page: --report FILE is missing (see pajurenda audit --help)' audit $words
+	done
+	fails_with 'pajurenda: verify: --number is one report'"'s: with --list a page is known by its line (see pajurenda verify --help)" \
+		verify --number 1 --list list --reports .
+	fails_with 'pajurenda: read: takes no option --note (see pajurenda read --help)' read --note x v
+	rm page
+	cd "$root"
+}
+
+# a file whose header was changed says other things of itself, each marked; the range has the field's name
+try_changed_header() {
+	cd "$i"
+	changed v b 111 4 112 9 116 88 135 48 196 1
+	try 1 audit --ranges --report page v b
+	prints 'base 0xFFF80000' "settings 0 $of_maker" 'strays 5' 'bits 0' 'X 111..111 length 1 tables: header revision' 'X 112..112 length 1 tables: image revision' \
+		'X 116..116 length 1 tables: identity' 'X 135..135 length 1 tables: component' 'X 196..196 length 1 tables: patch entry 3' 'verdict unexplained'
+	page_of page
+	page_says 'selves Reads by itself|yes|no: refusal 11 UPD|differs' 'selves Component|T|S|differs' \
+		'selves Identity|54524541542D3031 “TREAT-01”|58524541542D3031 “XREAT-01”|differs' 'selves Revision|0x01020304|0x01020309|differs' \
+		'selves Version|1.2.3.4|1.2.3.9|differs' 'selves Base|0xFFF80000|0xFFF80000|the same' 'ranges X stray|135..135|1|tables: component|10|30'
+	rm page b
 	cd "$root"
 }
 
@@ -111,7 +160,7 @@ try_refused_page() {
 	prints 'refused 14'
 	same whole "$work/old"
 	page_of page
-	page_says 'title Audit: refused' 'verdict refused (bad)' "file Maker's image|r|8192|$(digest_of r)" \
+	page_says 'title Audit: refused' 'verdict refused (bad)' "file Given as the maker's image|r|8192|$(digest_of r)" \
 		'because Refusal 14 OVERLAP of r: a patch word must be clear of tables, region and earlier words; patch entry 2, counted from 0. Nothing was compared.'
 	try 2 verify --report page v one.sheet "$work/empty" released
 	prints 'refused 15'
@@ -127,29 +176,23 @@ try_refused_page() {
 	cd "$root"
 }
 
-# without the system's tool, or with one that isn't it, the page says that there is no digest
-try_no_digest() {
+# a sha256sum that lies, or none, on the PATH: the digests are the library's, so nothing changes
+try_own_digest() {
 	cd "$i"
 	mkdir "$work/tools"
-	for tool in none true 'echo 0' 'cat' 'printf %064d 0' 'sh -c "exit 3"'; do
-		rm -f "$work/tools/sha256sum"
-		[ "$tool" = none ] || { printf '#!/bin/sh\nPATH=%s\nexec %s\n' "$PATH" "$tool" >"$work/tools/sha256sum" && chmod 755 "$work/tools/sha256sum"; }
-		what="audit --report, sha256sum is $tool"
+	printf '#!/bin/sh\nprintf "%%064d  -\\n" 0\n' >"$work/tools/sha256sum"
+	chmod 755 "$work/tools/sha256sum"
+	for path in "$work/tools" "$work/tools:$PATH" "$work/none"; do
+		what="audit --report with the PATH $path"
+		wanted_digest=$(digest_of v)
 		got=0
-		(PATH=$work/tools run audit --report page v s >"$work/out" 2>"$work/err") || got=$?
+		(PATH=$path && run audit --replace --report page v s >"$work/out" 2>"$work/err") || got=$?
 		status_was 1
 		says
 		page_of page
-		page_says "file Maker's image|v|8192|not taken: the system's sha256sum could not be run" \
-			"file Shipped file|s|8192|not taken: the system's sha256sum could not be run"
+		page_says "file Given as the maker's image|v|8192|$wanted_digest"
 	done
 	rm -r "$work/tools"
-	what='audit --report, started by who ignores what becomes of it'
-	got=0
-	(trap '' CHLD && run audit --report page v s >"$work/out" 2>"$work/err") || got=$?
-	status_was 1
-	page_of page
-	page_says "file Maker's image|v|8192|$(digest_of v)"
 	cd "$root"
 }
 
@@ -177,7 +220,7 @@ name = sys.argv[2]
 shown = "".join("U+%04X" % ord(c) if ord(c) < 32 or ord(c) == 127 else c for c in name)
 page = open(sys.argv[1], encoding="utf-8").read()
 assert "\nh1 ./" + shown + "\n" in page, shown
-assert "\nfile Maker\x27s image|v" + shown + "|8192|" in page
+assert "\nfile Given as the maker\x27s image|v" + shown + "|8192|" in page
 assert "\nfile Sheet 1|s" + shown + "|" in page' "$work/page" "$name" 2>"$work/err" || fail "the page has another name"
 		passed
 		find . -type f -exec rm -- {} +
@@ -270,9 +313,9 @@ try_large_page() {
 	took=$(($(date +%s) - start))
 	[ "$took" -le 60 ] || fail "it took $took s"
 	[ "$(wc -c <"$o/page")" -lt 2097152 ] || fail "the page has $(wc -c <"$o/page") bytes"
-	[ "$(wc -l <"$o/whole")" -eq 1000000 ] || fail "the list has $(wc -l <"$o/whole") lines"
+	[ "$(grep -c '^X ' "$o/whole")" -eq 1000000 ] || fail "the list has $(wc -l <"$o/whole") lines"
 	page_of "$o/page" "$o/whole"
-	page_says 'fact Stray bytes: 1000000' "rest … and 999000 more ranges with 999000 bytes. Every range is in $o/whole, the whole list above."
+	page_says 'fact Stray bytes: 1000000' "rest … and 999000 more ranges with 999000 bytes. Every range is in $o/whole, the whole list."
 	[ -z "$python" ] || [ "$(grep -c '^ranges ' "$work/page")" -eq 1000 ] || fail "not 1000 rows"
 	works 1 audit --report "$o/page" "$work/large" "$work/many"
 	page_of "$o/page" "$o/whole"
@@ -315,7 +358,7 @@ try_killed_pages() {
 			cp "$work/old" "$work/kp/page"
 			cp "$work/old" "$work/kp/whole"
 			what="audit --report, ended by $signal after $delay"
-			timeout --foreground -s "$signal" "$delay" ${emulator:+"$emulator"} "$command" audit "$i/v" "$i/kt" --report "$work/kp/page" --text "$work/kp/whole" \
+			timeout --foreground -s "$signal" "$delay" ${emulator:+"$emulator"} "$command" audit --replace "$i/v" "$i/kt" --report "$work/kp/page" --text "$work/kp/whole" \
 				>/dev/null 2>&1 || :
 			cmp -s "$work/kp/whole" "$work/old" || cmp -s "$work/kp/whole" "$work/wanted_text" || fail "the list is neither the old one nor the new one"
 			[ "$signal" != KILL ] || rm -f "$work/kp"/.pajurenda.*
@@ -341,7 +384,7 @@ try_killed_writing() {
 			turns=$((turns + 1))
 			rm -f "$k"/* "$k"/.pajurenda.*
 			cp "$work/old" "$k/whole"
-			${emulator:+"$emulator"} "$command" audit "$work/large" "$work/many" --text "$k/whole" >/dev/null 2>&1 &
+			${emulator:+"$emulator"} "$command" audit --replace "$work/large" "$work/many" --text "$k/whole" >/dev/null 2>&1 &
 			process=$!
 			while kill -0 "$process" 2>/dev/null; do
 				found=
@@ -355,12 +398,12 @@ try_killed_writing() {
 			if [ "$got" -gt 128 ]; then hit=yes; fi
 			[ "$signal" != KILL ] || rm -f "$k"/.pajurenda.*
 			[ "$(ls -A "$k")" = whole ] || fail "left behind: $(ls -A "$k")"
-			cmp -s "$k/whole" "$work/old" || [ "$(wc -l <"$k/whole")" -eq 1000000 ] || fail "neither the old list nor the new one"
+			cmp -s "$k/whole" "$work/old" || [ "$(grep -c '^X ' "$k/whole")" -eq 1000000 ] || fail "neither the old list nor the new one"
 			passed
 		done
 	done
 	rm -r "$k" "$work/many"
 }
 
-for one in audit_page verify_page refused_page no_digest hostile_names report_words unwritten_pages disk_pages large_page long_page killed_pages \
+for one in audit_page verify_page said_page changed_header refused_page own_digest hostile_names report_words unwritten_pages disk_pages large_page long_page killed_pages \
 	killed_writing; do "try_$one"; done

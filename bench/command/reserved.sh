@@ -38,7 +38,7 @@ try_reserved_bits() {
 try_reserved_right() {
 	turned 0 15 1 0 2 255 3 240
 	works 0 read --words b
-	sed 1,14d "$work/out" | cut -d ' ' -f 1-7 >"$work/rest"
+	sed 1,15d "$work/out" | cut -d ' ' -f 1-7 >"$work/rest"
 	lines 'patch word 0 entry 0x0F001192 at 4498' 'patch word 1 entry 0x00001386 at 4998' 'patch word 2 entry 0xFFFFF771 at 6001' \
 		'patch word 3 entry 0xF0FFFFFC at 8188'
 	same "$work/rest" "$work/wanted"
@@ -89,7 +89,7 @@ try_reserved_calls() {
 	values 22 b "$entry" audit --bytes b "$work/empty"
 	values 22 b "$entry" audit --ranges b b
 	works 1 audit --ranges v b
-	prints 'base 0xFFF80000' 'settings 0' 'strays 1' 'bits 0' 'X 195..195 length 1 tables' 'verdict unexplained'
+	prints 'base 0xFFF80000' "settings 0 $of_maker" 'strays 1' 'bits 0' 'X 195..195 length 1 tables: patch entry 2' 'verdict unexplained'
 }
 
 cd "$i"

@@ -16,12 +16,14 @@ makes() {
 	[ "$(sed -n '1,6{/^set/p}' "$work/told" | wc -l)" -eq 0 ] || fail "entries before what the sheet is for"
 }
 
-# binds TEXT..: these lines as a text for the vendor's image, into the file text
+# binds TEXT..: these lines as a text for the vendor's image, into the file text; of the lines that bind it those that it hasn't
 binds() {
 	: >"$i/text"
 	# shellcheck disable=SC2059
 	for line in "$@"; do printf -- "$line\\n" >>"$i/text"; done
-	cat "$work/bound" >>"$i/text"
+	while read -r word rest; do grep -q "^$word " "$i/text" || echo "$word $rest"; done <"$work/bound" >"$i/unbound"
+	cat "$i/unbound" >>"$i/text"
+	rm "$i/unbound"
 }
 
 try_empty_sheet() {
@@ -46,7 +48,7 @@ try_made_sheet() {
 	same "$o/sheet" "$work/sheet"
 	[ "$(cat "$work/sets")" = 'set 0x0028 at 4136: 01 05 -> 01 00, 0x0501 -> 0x0001' ] || fail "the entry is told otherwise"
 	for text in '0x28 01 00' '  40	01	00  ' '40 01 00# set' '40 01 00 # set' '#\n\n \n\t\n40 01 00' '40 01 00\r' '40 01 00\r\n\r\n' '\357\273\27740 01 00' \
-		"$treat\\n40 01 00" '# \303\266\n40 01 00' 'revision 16909060\nextended 0\n40 01 00' '40 01 00\nextended 0x0\nextended 0' \
+		"$treat\\n40 01 00" '# \303\266\n40 01 00' 'revision 16909060\nextended 0\n40 01 00' '40 01 00\nextended 0x0' \
 		'identity 54524541542d3031\n40 01 00' 'identity 54524541542D3031 "TREAT-01"# "\n40 01 00' '40 = 01 00' '40=01 00' '40 = 0x1 : 2' '40 =0x0001:2' \
 		'0x28 = 0x0001 : 0x2 # low byte first' '40 01 00 was 01 05' '40 01 00 was 0x0501' '40 01 00 was 0x501 : 2 # x' '40 = 0x0001 : 2 was 01 05' \
 		'40 01 00\twas\t01\t05'; do
@@ -82,7 +84,7 @@ try_shown_sheet() {
 	prints "$treat" 'revision 0x01020304' 'extended 0x0000 # version 1.2.3.4' '0x0020 AA' '0x0027 FF' '0x0028 01 00' '0x018F B7' '# entries 4'
 	works 0 release "$all" --owner=1 "$work/unset" "$o/sheet" keep "$o/set"
 	works 0 audit --bytes "$work/unset" "$o/set"
-	prints 'base 0xFFF80000' 'settings 4' 'strays 0' "$(sed -n 4p "$work/out")" "S 4128 $(byte_at "$work/unset" 4128) AA" 'S 4136 FF 01' \
+	prints 'base 0xFFF80000' "settings 4 $of_maker" 'strays 0' "$(sed -n 4p "$work/out")" "S 4128 $(byte_at "$work/unset" 4128) AA" 'S 4136 FF 01' \
 		'S 4137 FF 00' 'S 4495 B6 B7' 'verdict explained' "$unchecked"
 	works 0 sheet show "$o/sheet" "$o/set"
 	[ "$(grep -c ', changes nothing$' "$work/out")" -eq 4 ] || fail "what is set is still to change"
@@ -257,21 +259,25 @@ try_shown_path() {
 	mkdir "$work/path"
 	cp "$vendor" "$work/path/vendor.bin"
 	# shellcheck disable=SC2016
-	sed -n 's/^the line `\([^`]*\)` in `settings.txt`.*/\1/p' "$root/README.md" >"$work/path_entry"
+	sed -n 's/^`\([^`]*\)` in `settings.txt`.*/\1/p' "$root/README.md" >"$work/path_entry"
 	[ "$(wc -l <"$work/path_entry")" -eq 1 ] || fail "no entry in the README"
-	sed -n 's/^    pajurenda //p' "$root/README.md" >"$work/path_lines"
-	[ "$(wc -l <"$work/path_lines")" -eq 8 ] || fail "not eight lines in the README"
+	sed -n 's/^    pajurenda //p' "$root/README.md" | sed 's/ *#.*//' >"$work/path_lines"
+	[ "$(wc -l <"$work/path_lines")" -eq 6 ] || fail "not six lines in the README"
+	[ "$(wc -l <"$root/README.md")" -le 90 ] || fail "the README has more than 90 lines"
+	[ "$(awk 'length > 120' "$root/README.md" | wc -l)" -eq 0 ] || fail "the README has a line of more than 120 columns"
 	cd "$work/path"
 	while read -r words; do
 		# shellcheck disable=SC2086
-		works 0 $words
+		barely works 0 $words
 		[ "${words#sheet start}" = "$words" ] || cat "$work/path_entry" >>settings.txt
 	done <"$work/path_lines"
-	prints 'verdict as released' 'base 0x00512000' 'move -4289126400' 'sheet 1 entries 1 settings.sheet' \
-		'set 0x0028 at 4136: 01 05 -> 01 00, 0x0501 -> 0x0001' 'settings 0' 'strays 0' 'bits 0'
+	steady
+	prints 'verdict as released' "maker's image by shipped.bin.release.json" 'record steps 1 shipped.bin.release.json' 'base 0x00512000' \
+		'base wanted 0x00512000 by the record' 'move -4289126400' 'sheet 1 entries 1 owner 1 settings.sheet' \
+		'set 0x0028 at 4136: 01 05 -> 01 00, 0x0501 -> 0x0001' "settings 0 $of_release" 'strays 0' 'bits 0'
 	[ -s shipped.html ] || fail "no page"
 	works 0 audit --ranges vendor.bin shipped.bin
-	prints 'base 0x00512000' 'settings 1' 'strays 0' 'bits 2' 'S 4137..4137 length 1 region offset 0x0029' 'verdict explained' "$unchecked"
+	prints "maker's image by shipped.bin.release.json" 'base 0x00512000' "settings 1 $of_maker" 'strays 0' 'bits 2' 'S 4137..4137 length 1 region offset 0x0029' 'verdict explained' "$unchecked"
 	printf 'TREAT-01\004\003\002\001\002\000\000\000\050\000\000\000\002\000\040\000\140\000\000\000\004\000\042\000\001\000\377\356\000\000' >wanted
 	sed -n 's/^    \([^ ]\)/\1/p' "$work/help.sheet" | grep -v '^BypassRelay = ' >text
 	makes vendor.bin text sheet 2 38

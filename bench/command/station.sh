@@ -14,16 +14,26 @@ no_more='nothing but a reset'
 # shellcheck disable=SC2059
 log() { printf -- "$1" >g; }
 
+# ending REFUSALS NEXT: the last line, where these calls would be taken next
+ending() {
+	case $2:$1 in
+	"$no_more":0) echo 'boot complete' ;;
+	"$no_more":*) echo 'boot at its end, but with refused calls' ;;
+	*) echo "boot not complete, expected $2" ;;
+	esac
+}
+
 # counts CALLS RESETS REFUSALS NEXT: the last four lines
 counts() {
 	tail -n 4 "$work/out" >"$work/rest"
-	lines "calls $1" "resets $2" "refusals $3" "next $4"
+	lines "calls $1" "resets $2" "refusals $3" "$(ending "$3" "$4")"
 	same "$work/rest" "$work/wanted"
 }
 
-# follows LINE..: all that is printed of the log g, of which no call is refused
+# follows LINE..: all that is printed of the log g, of which no call is refused; the exit status is that of its last line
 follows() {
-	works 0 station g
+	for last in "$@"; do :; done
+	case $last in 'boot complete') works 0 station g ;; *) works 1 station g ;; esac
 	prints "$@"
 }
 
@@ -39,19 +49,19 @@ stumbles() {
 try_boots() {
 	log 'TempRamInit\nFspMemoryInit\nTempRamExit\nFspSiliconInit\nAfterPciEnumeration\nReadyToBoot\nEndOfFirmware\n'
 	follows '1 TempRamInit accepted' '2 MemoryInit accepted' '3 TempRamExit accepted' '4 SiliconInit accepted' "5 $pci accepted" "6 $ready accepted" \
-		"7 $end_of accepted" 'calls 7' 'resets 0' 'refusals 0' "next $no_more"
+		"7 $end_of accepted" 'calls 7' 'resets 0' 'refusals 0' 'boot complete'
 	log 'MemoryInit\nSiliconInit\nnotify 0x20\nnotify 0x40\nnotify 0xF0\nreset\nTempRamInit'
 	follows '1 MemoryInit accepted' '2 SiliconInit accepted' "3 $pci accepted" "4 $ready accepted" "5 $end_of accepted" '6 reset' '7 TempRamInit accepted' \
-		'calls 6' 'resets 1' 'refusals 0' 'next MemoryInit'
+		'calls 6' 'resets 1' 'refusals 0' 'boot not complete, expected MemoryInit'
 	: >g
-	follows 'calls 0' 'resets 0' 'refusals 0' "next $at_reset"
+	follows 'calls 0' 'resets 0' 'refusals 0' "boot not complete, expected $at_reset"
 	log '# nothing yet\n\n \t\nreset # here\nreset'
-	follows '4 reset' '5 reset' 'calls 0' 'resets 2' 'refusals 0' "next $at_reset"
+	follows '4 reset' '5 reset' 'calls 0' 'resets 2' 'refusals 0' "boot not complete, expected $at_reset"
 	what='station /dev/stdin, a pipe'
 	got=0
 	printf '2\n4' | run station /dev/stdin >"$work/out" 2>"$work/err" || got=$?
-	status_was 0
-	prints '1 MemoryInit accepted' '2 SiliconInit accepted' 'calls 2' 'resets 0' 'refusals 0' "next $pci"
+	status_was 1
+	prints '1 MemoryInit accepted' '2 SiliconInit accepted' 'calls 2' 'resets 0' 'refusals 0' "boot not complete, expected $pci"
 }
 
 # the example of help and man page, as it stands there
@@ -73,8 +83,28 @@ try_boot_forms() {
 		'1\n2\n3\n4\nnotify 0x0020\nNotifyPhase EnumInitPhaseReadyToBoot\nNotifyPhase 0xF0'; do
 		log "$text"
 		follows '1 TempRamInit accepted' '2 MemoryInit accepted' '3 TempRamExit accepted' '4 SiliconInit accepted' "5 $pci accepted" \
-			"6 $ready accepted" "7 $end_of accepted" 'calls 7' 'resets 0' 'refusals 0' "next $no_more"
+			"6 $ready accepted" "7 $end_of accepted" 'calls 7' 'resets 0' 'refusals 0' 'boot complete'
 	done
+}
+
+# what a log may begin its lines with, and what it may not
+try_boot_stamps() {
+	log '[    0.001204] TempRamInit\n[2026-11-16 14:00:00.5 UTC]MemoryInit\n12: TempRamExit # x\n13:4\n 0.25: notify 0x20\n\t[7] 5 0x40\n1.:EndOfFirmware\n[8]\n9: # x\n'
+	follows '1 [    0.001204] TempRamInit accepted' '2 [2026-11-16 14:00:00.5 UTC] MemoryInit accepted' '3 12: TempRamExit accepted' '4 13: SiliconInit accepted' \
+		"5 0.25: $pci accepted" "6 [7] $ready accepted" "7 1.: $end_of accepted" 'calls 7' 'resets 0' 'refusals 0' 'boot complete'
+	log '[1] reset\n2: MemoryInit\n[3 \303\266\342\200\256] SiliconInit\n'
+	follows '1 [1] reset' '2 2: MemoryInit accepted' "3 [3 $(printf '\303\266')?] SiliconInit accepted" 'calls 2' 'resets 1' 'refusals 0' \
+		"boot not complete, expected $pci"
+	log '[1] SiliconInit\n'
+	stumbles 40 1 "SiliconInit, expected $at_reset"
+	no_log 1 '"TempRamInit" is one word too many: a line has one call' '[info] TempRamInit'
+	no_log 1 '"2]" is one word too many: a line has one call' '[] 2]'
+	no_log 1 '"TempRamInit" is one word too many: a line has one call' '[1 TempRamInit'
+	no_log 1 'call "00:01:02" is not a number: write hex as 0x00512000, decimal without a leading 0' '1:00:01:02 TempRamInit'
+	no_log 1 'call "1.2.3:" is not a number: write hex as 0x00512000, decimal without a leading 0' '1.2.3: TempRamInit'
+	log '1: MemoryInit\nSiliconInit\nSiliconInit\n5 0x20\n5 0x40\n5 0xF0\n'
+	stumbles 40 3 "SiliconInit, expected $pci"
+	counts 6 0 '1, the first in line 3' "$no_more"
 }
 
 # ---- every call in every state ----
@@ -126,7 +156,7 @@ try_boot_stays() {
 	prints "1 SiliconInit refused 40 ORDER, expected $at_reset" '2 TempRamInit accepted' '4 TempRamInit refused 40 ORDER, expected MemoryInit' \
 		'5 MemoryInit accepted' "6 $ready refused 40 ORDER, expected TempRamExit" '7 call 7 refused 41 UNKNOWN, expected TempRamExit' \
 		'8 NotifyPhase 0x01 refused 41 UNKNOWN, expected TempRamExit' '9 TempRamExit accepted' '10 SiliconInit accepted' \
-		"11 TempRamExit refused 40 ORDER, expected $pci" "12 $pci accepted" 'calls 11' 'resets 0' 'refusals 6, the first in line 1' "next $ready"
+		"11 TempRamExit refused 40 ORDER, expected $pci" "12 $pci accepted" 'calls 11' 'resets 0' 'refusals 6, the first in line 1' "boot not complete, expected $ready"
 	log 'MemoryInit\nreset\nTempRamInit\nreset\nSiliconInit\nreset\nMemoryInit'
 	stumbles 40 5 "SiliconInit, expected $at_reset"
 	counts 4 3 '1, the first in line 5' SiliconInit
@@ -204,16 +234,16 @@ try_log_files() {
 	fails_with 'pajurenda: /dev/zero: File too large' station /dev/zero
 	fails_with 'pajurenda: station: LOG is missing (see pajurenda station --help)' station
 	fails_with 'pajurenda: station: one word too many: "b" (see pajurenda station --help)' station a b
-	fails_with 'pajurenda: station: takes no option --json (see pajurenda station --help)' station --json g
+	fails_with 'pajurenda: station: takes no option --words (see pajurenda station --help)' station --words g
 	errs 'pajurenda: v: line 1: control character 0x' station v
 	{ head -c 1000000 /dev/zero | tr '\000' '\n' && echo SiliconInit; } >g
 	stumbles 40 1000001 "SiliconInit, expected $at_reset"
 	yes reset | head -n 20000 >g
-	works 0 station g
+	works 1 station g
 	counts 0 20000 0 "$at_reset"
 	printf 'MemoryInit' >"a
 g: refused"
-	works 0 station 'a
+	works 1 station 'a
 g: refused'
 	printf 'TempRamExit' >'a
 g: refused'
@@ -249,5 +279,5 @@ try_drawn_log() {
 }
 
 cd "$i"
-for one in boots shown_boot boot_forms boot_states boot_stays boot_unknown no_log log_files drawn_log; do "try_$one"; done
+for one in boots shown_boot boot_forms boot_stamps boot_states boot_stays boot_unknown no_log log_files drawn_log; do "try_$one"; done
 cd "$root"

@@ -44,11 +44,22 @@ try_other_images() {
 		sheet make v t "$o/out"
 	no_sheet 16 1 'revision 0x02020304, v has revision 0x01020304' 'revision 33686276'
 	no_sheet 16 1 'extended 0x0100, v has extended 0x0000' 'extended 256\n40 00\n31 00'
-	no_sheet 16 3 'extended 0x0001, v has extended 0x0000' 'extended 0\n40 00\nextended 0x1'
+	no_sheet 16 3 'extended 0x0001, v has extended 0x0000' 'revision 0x01020304\n40 00\nextended 0x1'
 	no_sheet 16 1 'identity 54524541542D3032 "TREAT-02", v has identity 54524541542D3031 "TREAT-01"' 'identity 54524541542D3032 "TREAT-02"'
 	no_sheet 16 1 'identity 0000000000000000, v has identity 54524541542D3031 "TREAT-01"' 'identity 0000000000000000'
 	no_sheet 16 2 'identity 20524541542D3031 " REAT-01", v has identity 54524541542D3031 "TREAT-01"' \
-		'identity 54524541542D3031\nidentity 20524541542D3031 " REAT-01"'
+		'revision 0x01020304\nidentity 20524541542D3031 " REAT-01"'
+}
+
+# a part that is named again, the same or another: the library isn't asked again, however many such lines there are
+try_parts_twice() {
+	no_text 2 '"identity" is named twice' 'identity 54524541542D3031\nidentity 54524541542D3031'
+	no_text 3 '"revision" is named twice' 'revision 0x01020304\n40 00\nrevision 0x01020305'
+	no_text 2 '"extended" is named twice' 'extended 0\nextended'
+	{ cat "$work/bound" && yes 'revision 0x01020304' | head -n 700000; } >t
+	keeps "$o" fails_with 'pajurenda: t: line 3: "revision" is named twice' sheet make v t "$o/out"
+	{ cat "$work/bound" "$work/bound" && echo 'base any'; } >t
+	keeps "$o" fails_with 'pajurenda: t: line 3: "identity" is named twice' must show t v
 }
 
 # a number or bytes that could be taken for others
@@ -230,7 +241,7 @@ cd "$i"
 cp "$work/old" "$o/out"
 printf '40 00' >"$work/old_text"
 { printf '40 00\n' && cat "$work/bound"; } >"$work/good_text"
-for one in rules_of_lines other_images no_numbers no_bytes unbound was hidden odd_files named_pipe out_is_input; do
+for one in rules_of_lines other_images parts_twice no_numbers no_bytes unbound was hidden odd_files named_pipe out_is_input; do
 	"try_$one"
 done
 cd "$root"

@@ -50,7 +50,7 @@ whole() {
 kill_at_random() {
 	delays=$(awk -v seed="$seed" 'BEGIN { srand(seed); for (n = 0; n < 6; n++) printf "%.4f ", rand() * 0.06 }')
 	for delay in $delays; do
-		timeout --foreground -s "$1" "$delay" ${emulator:+"$emulator"} "$command" release "$all" --owner=1 "$work/large" "$work/sheet" 0xff000000 "$k/out" \
+		timeout --foreground -s "$1" "$delay" ${emulator:+"$emulator"} "$command" release --replace --no-record "$all" --owner=1 "$work/large" "$work/sheet" 0xff000000 "$k/out" \
 			>/dev/null 2>&1 || :
 		whole "$1"
 		passed
@@ -77,7 +77,7 @@ kill_while_writing() {
 		[ "$turns" -lt 40 ] || fail "no $1 of 40 came while it was writing"
 		turns=$((turns + 1))
 		# shellcheck disable=SC2086
-		$under ${emulator:+"$emulator"} "$command" release "$all" --owner=1 "$work/large" "$work/sheet" 0xff000000 "$k/out" >/dev/null 2>&1 &
+		$under ${emulator:+"$emulator"} "$command" release --replace --no-record "$all" --owner=1 "$work/large" "$work/sheet" 0xff000000 "$k/out" >/dev/null 2>&1 &
 		process=$!
 		await_writing "$process"
 		kill -s "$1" "$process" 2>/dev/null || :

@@ -52,6 +52,12 @@ if command -v pkg-config >/dev/null; then
 	# shellcheck disable=SC2086
 	"$TRY_CC" $program_link "$clone/example/audit-two.c" $words -o "$work/two" 2>"$work/err" || fail "not compiled"
 	try 1 ${program_emulator:+"$program_emulator"} "$work/two" "$sample/data/vendor.bin" "$sample/data/shipped.bin"
+	what='a program by the pkg-config file, a blank in the prefix'
+	try 0 "$install" "$work/p/new one"
+	words=$(PKG_CONFIG_PATH="$work/p/new one/lib/pkgconfig" pkg-config --cflags --libs pajurenda)
+	eval "\"\$TRY_CC\" $program_link \"\$clone/example/audit-two.c\" $words -o \"\$work/two\"" 2>"$work/err" || fail "not compiled: $words"
+	try 1 ${program_emulator:+"$program_emulator"} "$work/two" "$sample/data/vendor.bin" "$sample/data/shipped.bin"
+	try 0 "$install" --remove "$work/p/new one"
 else
 	not_run="$not_run; a program by the pkg-config file (no pkg-config)"
 fi

@@ -37,10 +37,10 @@ try 1 "$work/by-link"
 prints "$work/sample"
 
 # what the README shows is what it prints, and the compile line it gives is that of the example
-awk '/^```/ { block++; next } block == 1' "$root/README.md" >"$work/shown"
+sed -n '/^    base 0x/,/^    verdict /s/^    //p' "$root/README.md" >"$work/shown"
 try 1 "$audit" --ranges
 prints "$work/shown"
-line=$(awk '/^```/ { block++; next } block == 5' "$root/README.md")
+line=$(sed -n 's/^    \(cc .*\)/\1/p' "$root/README.md")
 grep -qF "$line" "$root/example/audit-two.c" || fail "the README compiles the example otherwise: $line"
 passed
 
@@ -57,6 +57,18 @@ try 2 "$audit" "$work/half"
 tells 'two files are audited, not 1'
 try 2 "$audit" a b c
 tells 'two files are audited, not 3'
+try 2 "$audit" --byte
+tells 'unknown option --byte'
+try 2 "$audit" "$work/half" "$work/half" --report
+tells '--report has no value after it'
+try 2 "$audit" --names --json
+tells '--names has no value after it'
+for option in --must --names --list; do
+	try 2 "$audit" "$option" "$work/missing"
+	tells "$work/missing: No such file or directory"
+	try 2 "$audit" "$option=$work/missing"
+	tells "$work/missing: No such file or directory"
+done
 try 2 "$audit" "$work/missing" "$work/half"
 tells "tools/audit: $work/missing: No such file or directory"
 try 2 "$audit" "$work/half" "$work"
