@@ -1,0 +1,4 @@
+pub mod Year
+pub mod YearLaws
+pub mod YearHolds
+pub mod YearMet
