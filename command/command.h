@@ -69,6 +69,7 @@ enum status do_owners_show(char **word, const struct options *options);
 enum status do_setting(char **word, const struct options *options);
 enum status do_audit(char **word, const struct options *options);
 enum status do_verify(char **word, const struct options *options);
+enum status do_mend(char **word, const struct options *options);
 enum status do_handoff(char **word, const struct options *options);
 enum status do_map(char **word, const struct options *options);
 enum status do_place(char **word, const struct options *options);

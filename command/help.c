@@ -74,6 +74,8 @@ static const struct command commands[] = {
 	  "[--owners LIST --owner N] [--base BASE] [--must FILE] [--note TEXT] [--json] --list FILE\n"
 	  "                        [--reports FOLDER] [--replace]",
 	  "says whether a shipped file is what a release, by its record or sheets, makes", verify_help },
+	{ "mend", { "VENDOR", "SHIPPED", "OUT" }, REPLACE, do_mend, "[--replace] VENDOR SHIPPED OUT", NULL,
+	  "writes a shipped file with every stray byte put back, settings kept", mend_help },
 	{ "hex export", { "IMAGE", "OUT" }, AT_BASE | JSON | REPLACE, do_hex_export,
 	  "[--base BASE] [--json] [--replace] IMAGE OUT", NULL,
 	  "writes an image as Intel HEX, for a flash programmer", hex_help },
@@ -241,7 +243,7 @@ enum status show_help(const struct command *command)
 	if (command->run == do_release)
 		fputs(out_help, stdout);
 	if (command->help == sheet_help || command->help == owners_help || command->help == hex_help ||
-	    command->help == split_help)
+	    command->help == split_help || command->help == mend_help)
 		fputs(made_out_help, stdout);
 	if ((command->options & NAMES) != 0 || command->help == sheet_help || command->help == owners_help)
 		fputs(names_help, stdout);

@@ -240,6 +240,14 @@ const char audit_status_help[] =
 const char verify_status_help[] =
 	"\nExit status: 0 as released, 1 not as released or not as required, 2 refused or failed.\n";
 
+const char mend_help[] =
+	"Compares SHIPPED with VENDOR as `audit` does, and writes to OUT a copy of SHIPPED in which each\n"
+	"stray byte is again what it should be: VENDOR's, moved to SHIPPED's base. Settings stay as they are:\n"
+	"an audit of OUT says explained, with the same base and the same settings. Shows the base, how many\n"
+	"bytes were put back, each range of them as `audit --ranges` names it, how many bytes and bits\n"
+	"differ in settings, and `mended` or `nothing to mend`. What is refused by `audit` is refused here,\n"
+	"and VENDOR of edition 1 with 28; then nothing is written.\n";
+
 const char hex_help[] =
 	"export  writes to OUT the bytes of IMAGE as Intel HEX, the text that a flash programmer takes.\n"
 	"        Shows the base and how many characters the text has.\n"

@@ -18,6 +18,7 @@ extern const char verify_status_help[];
 extern const char hex_help[];
 extern const char history_help[];
 extern const char split_help[];
+extern const char mend_help[];
 extern const char handoff_help[];
 extern const char map_help[];
 extern const char place_help[];

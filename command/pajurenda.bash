@@ -11,7 +11,7 @@ _pajurenda_word()
 	owners:0) echo lists ;;
 	hex:0) echo texts ;;
 	release:2) echo bases ;;
-	history:0 | split:[01] | join:* | read:0 | release:[013] | setting:0 | audit:[01] | verify:* | sheet\ fold:* | handoff:0 | map:0 | place:[01] | station:0) echo files ;;
+	history:0 | split:[01] | join:* | read:0 | release:[013] | setting:0 | audit:[01] | verify:* | mend:[012] | sheet\ fold:* | handoff:0 | map:0 | place:[01] | station:0) echo files ;;
 	sheet\ empty:[01] | sheet\ start:[01] | sheet\ make:[012] | sheet\ show:[01] | owners\ all:[01] | owners\ show:[01] | must\ show:[01] | hex\ export:[01] | hex\ import:[01]) echo files ;;
 	*) echo nothing ;;
 	esac
@@ -20,14 +20,14 @@ _pajurenda_word()
 # the options of the subcommand $1; every one has a document and a limit to its time
 _pajurenda_options()
 {
-	case $1 in '' | help | sheet | owners | must | hex) ;; history | split | join) echo --seconds ;; *) echo --json --seconds ;; esac
+	case $1 in '' | help | sheet | owners | must | hex) ;; history | mend | split | join) echo --seconds ;; *) echo --json --seconds ;; esac
 	case $1 in
 	'') echo '--help --version' ;;
 	read) echo '--modules --words --help' ;;
 	audit) echo '--number --note --bytes --ranges --quiet --report --text --list --reports --names --names-strict --must --vendor-sha256 --replace --help' ;;
 	verify) echo '--number --note --owners --owner --base --quiet --report --text --list --reports --names --names-strict --must --vendor-sha256 --replace --help' ;;
 	history) echo '--report --replace --help' ;;
-	split | join) echo '--replace --help' ;;
+	mend | split | join) echo '--replace --help' ;;
 	setting | sheet\ start | sheet\ show | owners\ show | must\ show) echo '--names --names-strict --help' ;;
 	sheet\ fold) echo '--names --names-strict --image --replace --help' ;;
 	sheet\ make) echo '--names --names-strict --replace --help' ;;
@@ -93,8 +93,8 @@ _pajurenda()
 	case $(_pajurenda_kind) in
 	options) offered=$(_pajurenda_options "$command") ;;
 	numbers) offered='1 2' ;;
-	commands) offered='read release sheet must owners setting audit verify hex history split join handoff map place station help' ;;
-	topics) offered='read release sheet must owners setting audit verify hex history split join handoff map place station' ;;
+	commands) offered='read release sheet must owners setting audit verify mend hex history split join handoff map place station help' ;;
+	topics) offered='read release sheet must owners setting audit verify mend hex history split join handoff map place station' ;;
 	sheets) offered='empty start make show fold' ;;
 	lists) offered='all show' ;;
 	texts) offered='export import' ;;

@@ -179,7 +179,7 @@ enum {
 	PAJURENDA_SETTING_BYTES = 24
 };
 
-/* The answer of pajurenda_audit; 20 keeps base and counts, other refusals number and index alone. */
+/* The answer of pajurenda_audit and pajurenda_mend; 20 keeps base and counts, other refusals number and index alone. */
 enum {
 	PAJURENDA_AUDIT_NUMBER = 0,
 	PAJURENDA_AUDIT_INDEX = 8,
@@ -361,6 +361,17 @@ uint32_t pajurenda_audit(const uint8_t *vendor, size_t vendor_length,
 			 const uint8_t *shipped, size_t shipped_length,
 			 uint8_t *places, size_t places_length,
 			 uint8_t *answer, size_t answer_length);
+
+/*
+ * Audits a shipped image as pajurenda_audit does, and puts back each stray byte: it becomes that of the
+ * vendor image moved to the shipped base, and no other byte changes. Answer and list are those of the
+ * audit before. Refusals: the vendor image's own, 28 where it is of edition 1, then 19, 18, 20; on a
+ * refusal the shipped image and the list keep what they held.
+ */
+uint32_t pajurenda_mend(const uint8_t *vendor, size_t vendor_length,
+			uint8_t *shipped, size_t shipped_length,
+			uint8_t *places, size_t places_length,
+			uint8_t *answer, size_t answer_length);
 
 /*
  * One step through a list of hand-off blocks: the block at the cursor, and the next cursor. Any

@@ -76,7 +76,7 @@ shown() {
 	sed -n '/^row /p' "$work/measured" | sort >"$work/rows"
 	same "$work/rows" "$work/wanted"
 	sed -n 's/^marks /seen /p' "$work/page" | sort >"$work/wanted"
-	grep '^seen ' "$work/measured" | grep -v -e ' moved ' -e ' set ' | sort >"$work/rows"
+	grep '^seen ' "$work/measured" | grep -v -e ' moved ' -e ' set ' -e ' modules ' | sort >"$work/rows"
 	same "$work/rows" "$work/wanted"
 	grep -qi "^word $(sed -n 's/^verdict \(.*\) (.*/\1/p' "$work/page") large\$" "$work/measured" || fail "the verdict isn't there, large"
 	passed
@@ -92,7 +92,8 @@ picture_of() {
 	passed
 }
 
-# printed PAGE: on A4, every word inside the margins; the words are looked at where pdftotext can be had
+# printed PAGE: on A4, every word inside the margins; the words are looked at where pdftotext can be had. Where all that is signed goes on the
+# first sheet the signature is there; on a longer page it stands on a later one, with the files above it
 printed() {
 	what="a print of $1"
 	# shellcheck disable=SC2086
@@ -119,7 +120,7 @@ for number, sheet in enumerate(sheets):
 signed = [number for number, sheet in enumerate(sheets) if "Signature" in sheet]
 assert len(signed) == 1 and "SHA-256" in sheets[signed[0]], "the signature stands alone"
 assert signed[0] + 1 < len(sheets) and "Map of the image" in sheets[signed[0] + 1], "what is behind it is not behind it"
-assert signed[0] == 0 or sys.argv[2] == "many", "the signature is on sheet %d" % (signed[0] + 1)' "$work/print.text" "$name" 2>"$work/err" || fail "the sheets"
+assert signed[0] == 0 or sys.argv[2] in ("many", "not-as-required", "modules", "modules-verified"), "the signature is on sheet %d" % (signed[0] + 1)' "$work/print.text" "$name" 2>"$work/err" || fail "the sheets"
 	passed
 	sed -n 's/^ranges [^|]*|\([^|]*\)|.*/\1/p; s/^file [^|]*|[^|]*|[^|]*|\([0-9a-f]\{30\}\)[0-9a-f]*$/\1/p' "$work/page" >"$work/wanted"
 	[ -s "$work/wanted" ] || fail "nothing to look for"

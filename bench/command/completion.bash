@@ -18,7 +18,7 @@ offers() {
 	count=$((count + 1))
 }
 
-offers 'audit|handoff|help|hex|history|join|map|must|owners|place|read|release|setting|sheet|split|station|verify' ''
+offers 'audit|handoff|help|hex|history|join|map|mend|must|owners|place|read|release|setting|sheet|split|station|verify' ''
 offers 'a b|image' history ''
 offers '' history image ''
 offers 'a b|image' join image image image ''
@@ -29,7 +29,7 @@ offers 'read|release' r
 offers 'setting|sheet|split|station' s
 offers '--help|--version' -
 offers '--version' --v
-offers 'audit|handoff|hex|history|join|map|must|owners|place|read|release|setting|sheet|split|station|verify' help ''
+offers 'audit|handoff|hex|history|join|map|mend|must|owners|place|read|release|setting|sheet|split|station|verify' help ''
 offers '' help sheet ''
 offers '' help owners ''
 offers 'handoff|help|hex|history' h
@@ -64,7 +64,7 @@ offers '--help|--json|--seconds' place -
 offers 'a b|image' place ''
 offers 'a b|image' place image ''
 offers '' place image image ''
-offers 'map|must' m
+offers 'map|mend|must' m
 offers '--after|--help|--hex|--json|--names|--names-strict|--no-record|--owner|--owners|--record|--replace|--seconds|--vendor-sha256' release -
 offers 'a b|image' release --after ''
 offers 'a b|image' release --record ''

@@ -116,7 +116,7 @@ try_said_page() {
 	try 1 audit --report page --number 'R-17 <b>' --note "as 'agreed'" v t
 	page_of page
 	page_says 'report-number Report R-17 <b>' "remark Note: as 'agreed'" "path Given as the maker's image|$(pwd -P)/v" "path Shipped file|$(pwd -P)/t"
-	grep -q "^fact Command line: .*pajurenda.* audit .*--report page --number 'R-17 <b>' --note 'as '\\\\''agreed'\\\\''' v t\$" "$work/page" || [ -z "$python" ] || fail "another line"
+	grep -q "^fact Command line: .* audit .*--report page --number 'R-17 <b>' --note 'as '\\\\''agreed'\\\\''' v t\$" "$work/page" || [ -z "$python" ] || fail "another line"
 	grep -q '^fact Proved, for every input: .*pajurenda_read .*pajurenda_contents .*pajurenda_release .*pajurenda_audit ' "$work/page" || [ -z "$python" ] ||
 		fail "it doesn't say what is proved"
 	grep -q '^fact Not checked: whether the file that is taken' "$work/page" || [ -z "$python" ] || fail "it doesn't say what wasn't checked"

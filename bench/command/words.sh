@@ -14,7 +14,7 @@ help_is() {
 try_help() {
 	works 0 --help
 	cp "$work/out" "$work/help.all"
-	for word in read release 'sheet empty' 'sheet start' 'sheet make' 'sheet show' 'sheet fold' 'must show' 'owners all' 'owners show' setting audit verify 'hex export' 'hex import' history split join handoff map place station help --modules --words --bytes \
+	for word in read release 'sheet empty' 'sheet start' 'sheet make' 'sheet show' 'sheet fold' 'must show' 'owners all' 'owners show' setting audit verify mend 'hex export' 'hex import' history split join handoff map place station help --modules --words --bytes \
 		--ranges --json --report --text --list --reports --owners --owner --names --must --base --hex --image --replace --record --after --no-record --vendor-sha256 --seconds --note --number --version 'Exit status' ' 20  ROOM' ' 22  RESERVED' ' 23  OWNERS' ' 24  OWNER' \
 		' 25  MODULE' ' 26  WORD' ' 27  RELOCATION' ' 28  READ-ONLY' ' 29  FOLDED' '1 to 12, 22, 13, 14, 25, 26, 27' '28, 15, 23,' ' 33  KIND' ' 34  ABOVE' ' 35  MANY' ' 36  IMAGE' ' 37  NOWHERE' ' 40  ORDER' ' 41  UNKNOWN' ' 50  TEXT' ' 53  SPACE'; do
 		grep -qF -e "$word" "$work/out" || fail "the help does not speak of $word"

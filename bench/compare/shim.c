@@ -8,6 +8,7 @@
 #include "../second/hex.h"
 #include "../second/map.h"
 #include "../second/sha256.h"
+#include "../second/mend.h"
 #include "../second/second.h"
 #include "../second/station.h"
 
@@ -93,6 +94,28 @@ uint32_t pajurenda_audit(const uint8_t *vendor, size_t vendor_length,
 	const uint64_t count = r.settings + r.strays;
 	if (r.number == PAJURENDA_ROOM && count <= places_length / PAJURENDA_PLACE_BYTES)
 		r = list_differences(vendor, shipped, vendor_length, places, count);
+	const uint64_t fields[] = { r.number, r.index, r.base, r.settings, r.strays,
+				    r.bits, r.explained };
+	put_fields(answer, fields, FIELDS(fields));
+	return (uint32_t)r.number;
+}
+
+/* The audit's answer and list; then the strays of the file put back, where there was room. */
+uint32_t pajurenda_mend(const uint8_t *vendor, size_t vendor_length,
+			uint8_t *shipped, size_t shipped_length,
+			uint8_t *places, size_t places_length,
+			uint8_t *answer, size_t answer_length)
+{
+	if (answer_length < PAJURENDA_AUDIT_BYTES)
+		return PAJURENDA_SHORT;
+	const uint64_t room = places_length / PAJURENDA_PLACE_BYTES;
+	uint32_t *list = calloc((size_t)room + 1, sizeof *list);
+	if (list == NULL)
+		abort();
+	const struct second_audited r = second_mend(vendor, vendor_length, shipped, shipped_length, list, room);
+	for (size_t i = 0; r.number == 0 && i < r.settings + r.strays; i++)
+		put_number(places, 4 * i, 4, list[i]);
+	free(list);
 	const uint64_t fields[] = { r.number, r.index, r.base, r.settings, r.strays,
 				    r.bits, r.explained };
 	put_fields(answer, fields, FIELDS(fields));

@@ -1,0 +1,3 @@
+pub mod PutBack
+pub mod PutBackLaws
+pub mod Laid

@@ -1,0 +1,5 @@
+pub mod Cleared
+pub mod Only
+pub mod Left
+pub mod Theorems
+pub mod Small

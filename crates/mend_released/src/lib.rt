@@ -1,0 +1,1 @@
+// Theorems alone: what is mended could have been released.
