@@ -1,4 +1,6 @@
 // Request #107, rule 26: few patch words, each held against every item of a volume without modules. No window is needed then.
+#![tactic(auto)]
+
 ghost use Rattle.std.specs.Prelude.{true, ◌≡◌, ◌+◌, ◌≤◌, ◌<◌, length};
 ghost use Rattle.facts.specs.Fact.{Holds, Tells};
 ghost use Rattle.items.specs.Items.{apart_from};

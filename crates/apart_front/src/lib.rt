@@ -1,4 +1,6 @@
 // Request #107, rule 26: where items come in order, each is known to lie apart from all that is passed by comparing it with a frontier.
+#![tactic(auto)]
+
 ghost use Rattle.std.specs.Prelude.{[], ◌∷◌, ◌+◌, ◌<◌};
 ghost use Rattle.apart_front.specs.Fronts.{SaysOrdered, Fronts};
 
@@ -7,6 +9,7 @@ use items::Item;
 // All that is passed lies below low or in high..top, so that low..high and all from top on is free. A top of 1 TiB or more, below which every
 // item ends, says that something came out of order. (A flag would pad the struct, and copying the padding costs more than all comparisons.)
 #[derive(Drop)]
+#[derive(Clone, Copy)]
 pub struct Front {
     pub low: usize,
     pub high: usize,

@@ -1,4 +1,6 @@
 // Request #107, rule 26: marks of a window of 65,536 bytes, one for each byte: 2 where a word lies, 1 where only other items do.
+#![tactic(auto)]
+
 ghost use Rattle.std.specs.Prelude.{◌≡◌, [], ℕ, ◌+◌, ◌≤◌, ◌<◌, length, get_or};
 ghost use Rattle.inside_judge.specs.Rules.{patch_items};
 ghost use Rattle.apart_marks.specs.Marks.{PaintedIn, Clipped, Added, Marks, Patch};

@@ -1,4 +1,6 @@
 // Marks of bytes, one byte for each: a stretch is marked unless one of its bytes is marked already.
+#![tactic(auto)]
+
 ghost use Rattle.std.specs.Prelude.{◌≡◌, ◌+◌, ◌≤◌, length};
 ghost use Rattle.apart_strokes.specs.Strokes.{Eight, Painted};
 

@@ -1,5 +1,7 @@
 // Request #107, rule 26: whether each word of the modules shares no byte with another word, nor with what is looked at. The bytes at which
 // words can lie are gone through in windows of 65,536, each with a mark for each byte.
+#![tactic(auto)]
+
 ghost use Rattle.std.specs.Prelude.{◌≡◌, ◌∷◌, ◌+◌, ◌*◌, ◌≤◌, ◌<◌, length};
 ghost use Rattle.facts.specs.Fact.{Tells, ◌≤?◌, ◌or◌};
 ghost use Rattle.items.specs.Items.{apart_from};
@@ -19,6 +21,7 @@ use items::Item;
 
 // The spot up to which all that is passed ends by the window's end; and the highest end of what is passed.
 #[derive(Drop)]
+#[derive(Clone, Copy)]
 pub struct Trail {
     pub spot: Spot,
     pub high: usize,
@@ -26,6 +29,7 @@ pub struct Trail {
 
 // Whether some items could be marked, and the highest end of what is passed.
 #[derive(Drop)]
+#[derive(Clone, Copy)]
 pub struct Reach {
     pub ok: bool,
     pub high: usize,
@@ -33,6 +37,7 @@ pub struct Reach {
 
 // Whether a window is clear, and where the scan of the next one starts.
 #[derive(Drop)]
+#[derive(Clone, Copy)]
 pub struct Scan {
     pub ok: bool,
     pub next: Spot,

@@ -1,4 +1,6 @@
 // Document 01, "The audit": the walk over a vendor image and a shipped file, from word to word, and what it counts.
+#![tactic(auto)]
+
 ghost use Rattle.std.specs.Prelude.{◌≡◌, ◌+◌, ◌*◌, ◌^◌, ◌≤◌, ◌<◌, length};
 ghost use Rattle.facts.specs.Fact.{Tells};
 ghost use Rattle.reading_rules.specs.Reading.{entries_at};
@@ -37,6 +39,7 @@ fn byte_flips(x: u8, y: u8) -> u32
 
 // What is counted so far, and where the walk stands: no difference before `at` is left to count.
 #[derive(Drop)]
+#[derive(Clone, Copy)]
 pub struct Tally {
     pub at: usize,
     pub ahead: Ahead,
@@ -206,6 +209,7 @@ fn walk_all(
 
 // What is counted of all differences.
 #[derive(Drop)]
+#[derive(Clone, Copy)]
 pub struct Counts {
     pub settings: usize,
     pub strays: usize,

@@ -1,6 +1,8 @@
 // Request #107: the next word of the modules, for a walk that goes up through the image. A module's words may come in any order, and there
 // is no memory to sort them in: a window of marks, which the caller lends, tells those that start in a stretch of the image, and is filled
 // by a walk over the modules.
+#![tactic(auto)]
+
 ghost use Rattle.std.specs.Prelude.{true, false, ◌⊎◌, ◌≡◌, ℕ, ◌+◌, ◌-◌, ◌*◌, ◌≤◌, ◌<◌, [], length, get_or};
 ghost use Rattle.facts.specs.Fact.{Tells, ◌≤?◌, ◌and◌};
 ghost use Rattle.inside_pages.specs.Pages.{Paged};
@@ -19,6 +21,7 @@ use items::Item;
 // The marks tell the words that start in from..to-1. The next one stands at `at` and has `width` bytes; at `to` the window is used up. The
 // walk that fills the next window starts at `spot`.
 #[derive(Drop)]
+#[derive(Clone, Copy)]
 pub struct Window {
     pub from: usize,
     pub to: usize,
@@ -29,6 +32,7 @@ pub struct Window {
 
 // Where the next word stands, and how many bytes it has.
 #[derive(Drop)]
+#[derive(Clone, Copy)]
 pub struct Mark {
     pub at: usize,
     pub width: usize,
@@ -36,6 +40,7 @@ pub struct Mark {
 
 // Where a window's walk starts, and a place below which no word ahead of it starts.
 #[derive(Drop)]
+#[derive(Clone, Copy)]
 pub struct Found {
     pub spot: Spot,
     pub low: usize,

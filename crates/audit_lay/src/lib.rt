@@ -1,5 +1,7 @@
 // Document 01, "The audit": the reference's bytes laid into a window, which is lent and stands for a stretch of positions: the words of a move,
 // each with its moved value, over the vendor's own bytes.
+#![tactic(auto)]
+
 ghost use Rattle.std.specs.Prelude.{◌≡◌, ◌+◌, ◌%◌, ◌^◌, ◌<◌, ◌≤◌, ◌⊎◌, length};
 ghost use Rattle.facts.specs.Fact.{Holds};
 ghost use Rattle.words.specs.Le.{le};

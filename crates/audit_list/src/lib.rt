@@ -1,4 +1,6 @@
 // Document 01, "The audit": the walk that lists every difference.
+#![tactic(auto)]
+
 ghost use Rattle.std.specs.Prelude.{◌≡◌, ◌≤◌, ◌<◌, length};
 ghost use Rattle.std.proofs.lemmas.List.Edits.{sets};
 ghost use Rattle.reading_rules.specs.Reading.{entries_at};
@@ -16,6 +18,7 @@ use audit_tables::Ahead;
 
 // How many places are filled, and where the walk stands.
 #[derive(Drop)]
+#[derive(Clone, Copy)]
 pub struct Fill {
     pub at: usize,
     pub ahead: Ahead,

@@ -1,4 +1,6 @@
 // Document 01, "The audit": the walk that lists every difference in a list in which a place is four bytes.
+#![tactic(auto)]
+
 ghost use Rattle.std.specs.Prelude.{◌≡◌, ◌/◌, ◌≤◌, ◌<◌, length};
 ghost use Rattle.words.specs.Put.{put_all};
 ghost use Rattle.reading_rules.specs.Reading.{entries_at};

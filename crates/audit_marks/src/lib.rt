@@ -1,4 +1,6 @@
 // Marks of places: a window of bytes, one for each place of a stretch of the image, in which a word is marked where it starts.
+#![tactic(auto)]
+
 ghost use Rattle.std.specs.Prelude.{◌≡◌, ℕ, ◌+◌, ◌≤◌, ◌<◌, length, get_or};
 ghost use Rattle.words.specs.Le.{le};
 ghost use Rattle.audit_marks.specs.Marks.{Marked, Clear, First};

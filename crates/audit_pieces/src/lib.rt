@@ -1,5 +1,7 @@
 // Document 01, "The audit": the reference, piece by piece. A piece is a stretch in which no word of a move lies, where the reference is the
 // vendor image itself, and after it a stretch whose bytes are made in a window that is lent.
+#![tactic(auto)]
+
 ghost use Rattle.std.specs.Prelude.{◌⊎◌, ◌≡◌, ℕ, suc, ◌+◌, ◌-◌, ◌≤◌, ◌<◌, length, get_or};
 ghost use Rattle.words.specs.Le.{le};
 ghost use Rattle.reading_rules.specs.Guarantee.{Guaranteed};
@@ -17,6 +19,7 @@ use items::Item;
 // The positions from the last piece's end up to `from` are the vendor's own; those from there up to `to` stand in the window. The walk over the
 // modules goes on at `spot`; where `low` is past `to`, no word that is ahead of it starts below `low`.
 #[derive(Drop)]
+#[derive(Clone, Copy)]
 pub struct Piece {
     pub from: usize,
     pub to: usize,

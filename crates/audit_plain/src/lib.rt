@@ -1,4 +1,6 @@
 // Request #109: two files compared byte for byte, and every position where they differ counted and listed as a stray.
+#![tactic(auto)]
+
 ghost use Rattle.std.specs.Prelude.{◌≡◌, ◌/◌, ◌≤◌, length};
 ghost use Rattle.std.proofs.lemmas.List.Edits.{sets};
 ghost use Rattle.words.specs.Put.{put_all};

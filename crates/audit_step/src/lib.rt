@@ -1,4 +1,6 @@
 // Document 01, "The audit": one step of the walk over a vendor image and a shipped file, to the next difference or from word to word.
+#![tactic(auto)]
+
 ghost use Rattle.std.specs.Prelude.{◌≡◌, ◌+◌, ◌%◌, ◌^◌, ◌<◌, ◌≤◌, true, ◌⊎◌, length, if◌then◌else◌, nat_lt};
 ghost use Rattle.words.specs.Le.{le};
 ghost use Rattle.words.specs.Put.{digit};
@@ -11,6 +13,7 @@ use answers::Reading;
 
 // Where a step of the walk ends, and whether at a difference.
 #[derive(Drop)]
+#[derive(Clone, Copy)]
 pub struct Step {
     pub at: usize,
     pub hit: bool,

@@ -1,4 +1,6 @@
 // Document 01, "The audit": two stretches of bytes compared, 32 or eight at a time where they are the same.
+#![tactic(auto)]
+
 ghost use Rattle.std.specs.Prelude.{true, ◌≡◌, ◌+◌, ◌≤◌, length};
 ghost use Rattle.audit_stretch.specs.Stretch.{SameBytes, Until};
 

@@ -1,4 +1,6 @@
 // The next of the words that the tables name, the base word and then the patch words in order, for a walk that goes up through the image.
+#![tactic(auto)]
+
 ghost use Rattle.std.specs.Prelude.{◌≡◌, ◌+◌, ◌≤◌, ◌<◌, length};
 ghost use Rattle.reading_rules.specs.Reading.{entries_at};
 ghost use Rattle.reading_rules.specs.Guarantee.{Guaranteed};
@@ -9,6 +11,7 @@ use answers::Reading;
 
 // The place of the nearest that isn't passed, or the image's length; and where in the list the one after it stands.
 #[derive(Drop)]
+#[derive(Clone, Copy)]
 pub struct Ahead {
     pub first: usize,
     pub next: usize,

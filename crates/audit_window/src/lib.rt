@@ -1,6 +1,8 @@
 // Request #107: the modules' words, for a walk that goes up through the image. They may come in any order within a module, and there is no
 // memory to sort them in: those of a stretch of the image are laid into a window of its bytes, which the caller lends, by a walk over the
 // modules.
+#![tactic(auto)]
+
 ghost use Rattle.std.specs.Prelude.{true, false, ◌⊎◌, ◌≡◌, ℕ, ◌+◌, ◌-◌, ◌*◌, ◌≤◌, ◌<◌, [], length};
 ghost use Rattle.facts.specs.Fact.{Tells, ◌≤?◌, ◌and◌};
 ghost use Rattle.items.specs.Items.{word_kind};
@@ -20,6 +22,7 @@ use items::Item;
 
 // Where a window's walk starts, and from where on words may stand that are ahead of it.
 #[derive(Drop)]
+#[derive(Clone, Copy)]
 pub struct Found {
     pub spot: Spot,
     pub low: usize,

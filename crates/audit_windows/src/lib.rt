@@ -1,4 +1,6 @@
 // Request #107: the next word of the modules from a window of marks; where one is used up, the next window is filled.
+#![tactic(auto)]
+
 ghost use Rattle.std.specs.Prelude.{◌≡◌, ℕ, ◌+◌, ◌-◌, ◌≤◌, ◌<◌, List, length};
 ghost use Rattle.inside_walk.specs.WholeWalk.{ahead, Valid};
 ghost use Rattle.inside_walk.specs.Walkable.{Walkable};

@@ -1,4 +1,6 @@
 // The answers of the C calls, written in a lent buffer: eight bytes a field, the number first.
+#![tactic(auto)]
+
 ghost use Rattle.std.specs.Prelude.{◌≡◌, ◌*◌, ◌≤◌, length};
 ghost use Rattle.words.specs.Put.{put_all};
 ghost use Rattle.c_answers.specs.Answers.{twos, read_fields, move_fields, sheet_fields, setting_fields, audit_fields, list_fields};
@@ -114,6 +116,7 @@ pub fn write_listed(answer: &mut [u8], r: Listed)
 
 // A kind of hand-off block as numbers: which, and its own data.
 #[derive(Drop)]
+#[derive(Clone, Copy)]
 pub struct KindFields {
     pub kind: u64,
     pub a: u64,

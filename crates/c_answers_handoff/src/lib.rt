@@ -1,4 +1,6 @@
 // Request #101: the answers of the calls on hand-off blocks, as bytes.
+#![tactic(auto)]
+
 ghost use Rattle.std.specs.Prelude.{◌≡◌, ◌≤◌, length};
 ghost use Rattle.words.specs.Put.{put_all};
 ghost use Rattle.c_answers.specs.Steps.{kind_fields, step_fields, count_fields};

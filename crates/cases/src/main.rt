@@ -3,9 +3,12 @@
 // The image is the first len bytes of buffer 0, the other input the first `other` bytes of buffer 1; of a release buffer 2 has the owner
 // list, as long as the low half of b says, and the high half of b is the owner. A mending changes buffer 1; its list of places is a place
 // each, as an audit's, or the bytes of buffer 2, as many as the low half of b says.
+#![tactic(auto)]
+
 use libc::{STDIN_FILENO, STDOUT_FILENO};
 
 #[derive(Drop)]
+#[derive(Clone, Copy)]
 struct Record {
     which: usize,
     at: usize,

@@ -1,4 +1,6 @@
 // Request #107: what an image holds, as a list that the caller lends: every word of a move, and each module with its file and its section.
+#![tactic(auto)]
+
 ghost use Rattle.std.specs.Prelude.{◌≡◌, ◌+◌, ◌*◌, ◌≤◌, length};
 ghost use Rattle.words.specs.Put.{put_all};
 ghost use Rattle.inside_judge.specs.Rules.{patch_items};

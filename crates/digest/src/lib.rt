@@ -1,4 +1,6 @@
 // FIPS 180-4, section 6.2: SHA-256 of a message of whole bytes, into a lent buffer.
+#![tactic(auto)]
+
 ghost use Rattle.std.specs.Prelude.{◌≡◌, ◌+◌, ◌≤◌, length};
 ghost use Rattle.text_lines.specs.Lines.{Wrote};
 ghost use Rattle.digest_message.specs.Message.{big};

@@ -1,4 +1,6 @@
 // FIPS 180-4, section 6.2.2: one block after the other.
+#![tactic(auto)]
+
 ghost use Rattle.std.specs.Prelude.{◌≡◌, ◌+◌, ◌*◌, ◌≤◌, length};
 ghost use Rattle.digest_blocks.specs.Blocks.{compressed, chained};
 ghost use Rattle.digest_rounds.specs.Rounds.{K};

@@ -1,1 +1,2 @@
 // Theorems alone: bytes in parts, and the standard's examples.
+#![tactic(auto)]

@@ -1,4 +1,6 @@
 // FIPS 180-4, sections 5.1.1, 5.3.3 and 6.2.2: a message of whole bytes is padded to whole blocks and hashed block by block.
+#![tactic(auto)]
+
 ghost use Rattle.std.specs.Prelude.{◌≡◌, ◌+◌, ◌*◌, ◌/◌, ◌^◌, ◌≤◌, ◌<◌, length, get_or};
 ghost use Rattle.digest_rounds.specs.Rounds.{K};
 ghost use Rattle.digest_blocks.specs.Blocks.{chained};

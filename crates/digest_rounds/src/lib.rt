@@ -1,10 +1,13 @@
 // FIPS 180-4, sections 4.2.2 and 6.2.2 (step 3): the constants and the 64 rounds.
+#![tactic(auto)]
+
 ghost use Rattle.std.specs.Prelude.{◌≡◌, ◌+◌, ◌≤◌};
 ghost use Rattle.digest_rounds.specs.Rounds.{T₁, T₂, turned, K, rounds, plus};
 ghost use Rattle.digest_rounds.specs.RoundsLaws.{four_turned};
 
 // The eight working variables, and the eight words of a hash value.
 #[derive(Drop)]
+#[derive(Clone, Copy)]
 pub struct Eight {
     pub a: u32,
     pub b: u32,

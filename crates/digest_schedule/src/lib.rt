@@ -1,4 +1,6 @@
 // FIPS 180-4, section 6.2.2 (step 1): the message schedule of a block.
+#![tactic(auto)]
+
 ghost use Rattle.std.specs.Prelude.{◌≡◌, ◌+◌, ◌≤◌, ◌<◌, length, get_or};
 ghost use Rattle.digest_schedule.specs.Schedule.{word, loaded, next, expanded, scheduled};
 

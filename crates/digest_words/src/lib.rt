@@ -1,4 +1,6 @@
 // FIPS 180-4, section 4.1.2: the six functions on words of 32 bits, and sums of such words.
+#![tactic(auto)]
+
 ghost use Rattle.std.specs.Prelude.{◌≡◌, ◌+◌, ◌%◌, ◌^◌};
 ghost use Rattle.digest_words.specs.Functions.{Ch, Maj, Σ₀, Σ₁, σ₀, σ₁};
 

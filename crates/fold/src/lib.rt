@@ -1,4 +1,6 @@
 // Document 02, #114: a pile of sheets folded into one.
+#![tactic(auto)]
+
 ghost use Rattle.std.specs.Prelude.{◌≡◌, ◌≤◌, length};
 ghost use Rattle.facts.specs.Fact.{Tells};
 ghost use Rattle.fold_pile.specs.Pile.{pile_number};
@@ -11,6 +13,7 @@ use fold_tally::Tally;
 
 // The answer of a fold: number 0, the sheet's length and its entries; or the refusal's number and zeros.
 #[derive(Drop)]
+#[derive(Clone, Copy)]
 pub struct Folded {
     pub number: u32,
     pub size: usize,

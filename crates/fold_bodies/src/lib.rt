@@ -1,4 +1,6 @@
 // Document 02, #114: the folded sheet by its runs: the bodies sheet by sheet, a later byte over an earlier one, each at its place in its run.
+#![tactic(auto)]
+
 ghost use Rattle.std.specs.Prelude.{true, ◌≡◌, ℕ, ◌+◌, ◌*◌, ◌≤◌, ◌<◌, length, get_or};
 ghost use Rattle.facts.specs.Fact.{Holds};
 ghost use Rattle.sheet.specs.Sheet.{sheet_fits};
@@ -12,6 +14,7 @@ use sheet::Entry;
 
 // Whether all was found, and how many entries were met, of 1,024.
 #[derive(Drop)]
+#[derive(Clone, Copy)]
 pub struct Told {
     pub found: bool,
     pub met: usize,

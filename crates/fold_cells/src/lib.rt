@@ -1,4 +1,6 @@
 // Document 02, #114: what a pile sets, in windows of cells: a cell for each position, 0 where nothing is set and the last byte plus 1 where one is.
+#![tactic(auto)]
+
 ghost use Rattle.std.specs.Prelude.{◌≡◌, ℕ, ◌+◌, ◌≤◌, ◌<◌, length, get_or};
 ghost use Rattle.facts.specs.Fact.{Holds};
 ghost use Rattle.sheet.specs.Sheet.{sheet_fits};

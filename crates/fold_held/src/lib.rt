@@ -1,4 +1,6 @@
 // Document 02, #114: whether every entry of a pile lies in one of its runs.
+#![tactic(auto)]
+
 ghost use Rattle.std.specs.Prelude.{true, ◌≡◌, ℕ, ◌≤◌, ◌<◌, length};
 ghost use Rattle.facts.specs.Fact.{Holds};
 ghost use Rattle.sheet.specs.Sheet.{sheet_fits};
@@ -12,6 +14,7 @@ use sheet::Entry;
 
 // Whether a sheet's entries lie in runs, and how many entries were met with them, of 1,024.
 #[derive(Drop)]
+#[derive(Clone, Copy)]
 pub struct Seen {
     pub held: bool,
     pub met: usize,

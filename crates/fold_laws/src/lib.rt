@@ -1,1 +1,2 @@
 // Theorems alone: what a fold gives.
+#![tactic(auto)]

@@ -1,4 +1,6 @@
 // Document 02, #114: a pile of sheets, and rules 15 and 16 for it.
+#![tactic(auto)]
+
 ghost use Rattle.std.specs.Prelude.{◌≡◌, ◌≤◌, length};
 ghost use Rattle.facts.specs.Fact.{Tells};
 ghost use Rattle.fold_pile.specs.Pile.{lies, sheet_number, sheets_number, pile_number};

@@ -1,4 +1,6 @@
 // Document 02, #114: runs in order, and how many bytes are set before each.
+#![tactic(auto)]
+
 ghost use Rattle.std.specs.Prelude.{true, ◌≡◌, ℕ, ◌≤◌, ◌<◌, length};
 ghost use Rattle.fold_ranks.specs.Ranks.{Rising, sum_to, Summed};
 

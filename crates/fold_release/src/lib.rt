@@ -1,1 +1,2 @@
 // Theorems alone: a release with the folded sheet.
+#![tactic(auto)]

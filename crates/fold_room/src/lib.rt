@@ -1,4 +1,6 @@
 // Document 02, #114, rule 29: whether a folded sheet of so many runs and bytes can be, and has room.
+#![tactic(auto)]
+
 ghost use Rattle.facts.specs.Fact.{Tells};
 ghost use Rattle.fold_room.specs.RoomBy.{room_by};
 

@@ -1,5 +1,7 @@
 // Document 02, #114: what a pile sets, as a list of runs. It is gathered without any promise that nothing is missing; `all_held` then looks whether
 // every entry of the pile lies in a run.
+#![tactic(auto)]
+
 ghost use Rattle.std.specs.Prelude.{true, ◌≡◌, ℕ, ◌+◌, ◌≤◌, ◌<◌, length, get_or};
 ghost use Rattle.facts.specs.Fact.{Holds};
 ghost use Rattle.sheet.specs.Sheet.{sheet_fits};
@@ -15,6 +17,7 @@ use sheet::Entry;
 // How many words there are; how many of them, the first ones, are runs in order; up to where these reach; which of them is at hand; and how many
 // entries were met, of 1,024.
 #[derive(Drop)]
+#[derive(Clone, Copy)]
 pub struct Gathered {
     pub n: usize,
     pub runs: usize,

@@ -1,4 +1,6 @@
 // Document 02, #114: the folded sheet, written position by position.
+#![tactic(auto)]
+
 ghost use Rattle.std.specs.Prelude.{◌≡◌, ◌+◌, ◌≤◌, ◌<◌, length};
 ghost use Rattle.words.specs.Put.{put};
 ghost use Rattle.fold_sheet.specs.Placing.{put_header, put_entry, placed, Safe};

@@ -1,4 +1,6 @@
 // Document 02, #114: the runs of what a pile sets, and their bytes, counted window by window.
+#![tactic(auto)]
+
 ghost use Rattle.std.specs.Prelude.{true, ◌≡◌, ◌+◌, ◌≤◌, ◌<◌, length};
 ghost use Rattle.fold_pile.specs.Pile.{sheets};
 ghost use Rattle.fold_cells.specs.SetAt.{set_at};
@@ -7,6 +9,7 @@ ghost use Rattle.fold_tally.specs.Tally.{stepped, through, Small, Gapped, Counte
 
 // Up to some position: how long the run is that goes up to it, how many have ended, and how many positions are set.
 #[derive(Drop)]
+#[derive(Clone, Copy)]
 pub struct Tally {
     pub run: usize,
     pub runs: usize,

@@ -1,4 +1,6 @@
 // Document 02, #114: the two ways to fold a pile that passes 15 and 16: by its runs, and by windows where the runs don't tell enough.
+#![tactic(auto)]
+
 ghost use Rattle.std.specs.Prelude.{◌≡◌, ◌≤◌, ◌<◌, length};
 ghost use Rattle.fold_pile.specs.Pile.{pile_number};
 ghost use Rattle.fold_cells.specs.Cells.{last};

@@ -1,4 +1,6 @@
 // Document 02, #114: the entries and bodies of the folded sheet, written window by window.
+#![tactic(auto)]
+
 ghost use Rattle.std.specs.Prelude.{◌≡◌, ◌≤◌, ◌<◌, length};
 ghost use Rattle.fold_pile.specs.Pile.{sheets};
 ghost use Rattle.fold_cells.specs.SetAt.{set_at};

@@ -1,4 +1,6 @@
 // Request #101: the whole list of hand-off blocks, a step at a time.
+#![tactic(auto)]
+
 ghost use Rattle.std.specs.Prelude.{◌≡◌, ◌+◌, ◌≤◌, ◌<◌, length};
 ghost use Rattle.facts.specs.Rules.{run};
 ghost use Rattle.handoff_step.specs.Step.{refusal, from_later, from_first, from_head, stepped};
@@ -7,6 +9,7 @@ ghost use Rattle.handoff_list.specs.Passing.{brief, passing, at_least, at_end};
 
 // What the walk needs of a step: a block's own data isn't read.
 #[derive(Drop)]
+#[derive(Clone, Copy)]
 pub struct Pass {
     pub number: u32,
     pub next: usize,
@@ -113,6 +116,7 @@ pub fn pass_one(buffer: &[u8], at: usize) -> Pass
 // How many blocks the list has up to the end block and with it, and where the end block stands; or the refusal of the first block at
 // fault, where that block should stand, and how many blocks stand before it.
 #[derive(Drop)]
+#[derive(Clone, Copy)]
 pub struct Counted {
     pub number: u32,
     pub at: usize,

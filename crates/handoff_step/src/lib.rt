@@ -1,4 +1,6 @@
 // Request #101: the hand-off blocks, one a step. The cursor goes in and comes back by value; any bytes, any cursor.
+#![tactic(auto)]
+
 ghost use Rattle.std.specs.Prelude.{◌≡◌, ◌+◌, ◌≤◌, ◌<◌, length};
 ghost use Rattle.facts.specs.Fact.{Tells};
 ghost use Rattle.facts.specs.Rules.{run};
@@ -6,12 +8,14 @@ ghost use Rattle.handoff_step.specs.Step.{refusal, shown, head_fits, resource_at
 
 // Where the next block should stand, counted from the buffer's start. Anyone may make one up.
 #[derive(Drop)]
+#[derive(Clone, Copy)]
 pub struct Cursor {
     pub at: usize,
 }
 
 // What a block is, with the data of its kind. Nothing is the kind of a refused step, which shows no block.
 #[derive(Drop)]
+#[derive(Clone, Copy)]
 pub enum Kind {
     Nothing,
     Unknown,
@@ -32,6 +36,7 @@ pub enum Kind {
 
 // A block as it is shown: its place from the buffer's start, its type as a number, and its length with the header.
 #[derive(Drop)]
+#[derive(Clone, Copy)]
 pub struct Block {
     pub place: usize,
     pub code: usize,
@@ -41,6 +46,7 @@ pub struct Block {
 
 // The answer of a step: number 0, the next cursor and the block; or the refusal's number, the same cursor and no block.
 #[derive(Drop)]
+#[derive(Clone, Copy)]
 pub struct Stepped {
     pub number: u32,
     pub next: Cursor,

@@ -1,4 +1,6 @@
 // Rules 5 to 8 of document 01: the header, its size, the component and the base; and the extended number of request #102.
+#![tactic(auto)]
+
 ghost use Rattle.std.specs.Prelude.{◌≡◌, ◌+◌, ◌≤◌, ◌<◌, length};
 ghost use Rattle.facts.specs.Fact.{◌≡?◌, ◌and◌, ◌or◌, Holds, Tells};
 ghost use Rattle.words.specs.Le.{le};

@@ -1,4 +1,6 @@
 // Document 02, #112: the bytes that a text has, written into a lent buffer.
+#![tactic(auto)]
+
 ghost use Rattle.std.specs.Prelude.{◌≡◌, ◌+◌, ◌*◌, ◌≤◌, ◌<◌, ◌^◌, length};
 ghost use Rattle.text_lines.specs.Lines.{Wrote};
 ghost use Rattle.hex_text.specs.Hex.{over};

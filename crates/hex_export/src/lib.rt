@@ -1,4 +1,6 @@
 // Document 02, #112: bytes at a base written as Intel HEX text.
+#![tactic(auto)]
+
 ghost use Rattle.std.specs.Prelude.{◌≡◌, ◌+◌, ◌*◌, ◌^◌, ◌≤◌, ◌<◌, length};
 ghost use Rattle.text_lines.specs.Lines.{Wrote};
 ghost use Rattle.hex_text.specs.Hex.{sixteen, upper_line, data_line, part, all_parts, exported, over};
@@ -7,6 +9,7 @@ ghost use Rattle.hex_export.specs.Export.{refused_export, Exports, Roomy};
 
 // The answer of export: a refusal, or number 0 and the length of the text.
 #[derive(Drop)]
+#[derive(Clone, Copy)]
 pub struct Exported {
     pub number: u32,
     pub length: usize,

@@ -1,10 +1,13 @@
 // Document 02, #112: text read back, which is taken exactly where export writes it.
+#![tactic(auto)]
+
 ghost use Rattle.std.specs.Prelude.{◌≡◌, ◌+◌, ◌≤◌, length};
 ghost use Rattle.hex_import.specs.Import.{refused_import, Imports};
 ghost use Rattle.hex_import.specs.Found.{base_of, LengthOf};
 
 // The answer of import: a refusal, or number 0, the base and how many bytes there are.
 #[derive(Drop)]
+#[derive(Clone, Copy)]
 pub struct Imported {
     pub number: u32,
     pub base: u64,

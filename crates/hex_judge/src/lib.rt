@@ -1,4 +1,6 @@
 // Document 02, #112: whether a record stands in a text.
+#![tactic(auto)]
+
 ghost use Rattle.std.specs.Prelude.{◌≡◌, [], ◌∷◌, ◌+◌, ◌*◌, ◌≤◌, ◌<◌, length};
 ghost use Rattle.facts.specs.Fact.{Tells};
 ghost use Rattle.hex_text.specs.Hex.{pairs, line};

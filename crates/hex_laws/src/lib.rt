@@ -1,1 +1,2 @@
 // Theorems alone: export and import undo each other.
+#![tactic(auto)]

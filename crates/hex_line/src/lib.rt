@@ -1,4 +1,6 @@
 // Document 02, #112: one record written.
+#![tactic(auto)]
+
 ghost use Rattle.std.specs.Prelude.{[], ◌∷◌, ◌+◌, ◌*◌, ◌≤◌, ◌<◌, length, take, drop};
 ghost use Rattle.text_lines.specs.Lines.{Wrote};
 ghost use Rattle.hex_text.specs.Hex.{pairs, line};

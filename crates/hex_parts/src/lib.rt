@@ -1,4 +1,6 @@
 // Document 02, #112: whether a text is that of n bytes at a base.
+#![tactic(auto)]
+
 ghost use Rattle.std.specs.Prelude.{◌+◌, ◌*◌, ◌/◌, ◌^◌, ◌≤◌, ◌<◌, length};
 ghost use Rattle.facts.specs.Fact.{Tells};
 ghost use Rattle.hex_text.specs.Hex.{upper_line, data_line, part, parts, exported};

@@ -1,4 +1,6 @@
 // Document 02, #112: a digit, the length of the text and of its parts.
+#![tactic(auto)]
+
 ghost use Rattle.std.specs.Prelude.{◌≡◌, ◌+◌, ◌≤◌, ◌<◌, ◌^◌};
 ghost use Rattle.facts.specs.Fact.{Tells};
 ghost use Rattle.text_lines.specs.Text.{hex_digit};

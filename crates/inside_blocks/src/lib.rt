@@ -1,4 +1,6 @@
 // Request #107: the items of one module, one after the other.
+#![tactic(auto)]
+
 ghost use Rattle.std.specs.Prelude.{◌≡◌, ◌+◌, ◌*◌, ◌≤◌, ◌<◌, length};
 ghost use Rattle.facts.specs.Fact.{Tells};
 ghost use Rattle.words.specs.Le.{le};
@@ -16,6 +18,7 @@ use items::Item;
 // Where the walk stands in a module: headers to come, bytes of the directory that are used, the next entry, entries left in its block, and
 // that block's page.
 #[derive(Drop)]
+#[derive(Clone, Copy)]
 pub struct Cursor {
     pub heads: usize,
     pub used: usize,
@@ -25,6 +28,7 @@ pub struct Cursor {
 }
 
 #[derive(Drop)]
+#[derive(Clone, Copy)]
 pub struct Turn {
     pub item: Item,
     pub next: Cursor,

@@ -1,4 +1,6 @@
 // The files of a volume and their sections, part by part.
+#![tactic(auto)]
+
 ghost use Rattle.std.specs.Prelude.{true, ◌≡◌, ◌+◌, ◌≤◌, ◌<◌, length, get_or};
 ghost use Rattle.words.specs.Round.{round4};
 ghost use Rattle.facts.specs.Fact.{Tells, ◌≤?◌, ◌≡?◌, ◌or◌};
@@ -16,6 +18,7 @@ pub const BROKEN: u32 = 5;
 
 // What the walk meets: 1 a file's header or the free end, 2 a section, 5 none where one should be; 0 the end.
 #[derive(Drop)]
+#[derive(Clone, Copy)]
 pub struct Part {
     pub kind: u32,
     pub at: usize,
@@ -25,6 +28,7 @@ pub struct Part {
 
 // Where the walk stands: the next file, the end of the file at hand, and its next section.
 #[derive(Drop)]
+#[derive(Clone, Copy)]
 pub struct Place {
     pub file: usize,
     pub end: usize,
@@ -32,6 +36,7 @@ pub struct Place {
 }
 
 #[derive(Drop)]
+#[derive(Clone, Copy)]
 pub struct Turn {
     pub part: Part,
     pub next: Place,

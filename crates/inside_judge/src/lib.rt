@@ -1,4 +1,6 @@
 // Request #107: what is judged of each item of a volume, in one walk over all of them.
+#![tactic(auto)]
+
 ghost use Rattle.std.specs.Prelude.{◌&&◌, [], ◌∷◌, ◌≡◌, ◌+◌, ◌*◌, ◌≤◌, ◌<◌, length};
 ghost use Rattle.facts.specs.Fact.{Holds, Tells};
 ghost use Rattle.apart_front.specs.Fronts.{Fronts};
@@ -23,6 +25,7 @@ use items::Item;
 // Whether rule 25, 26 (but for apartness) and 27 is passed; the highest end of a word; and the frontier, which tells of apartness where all
 // comes in order.
 #[derive(Drop)]
+#[derive(Clone, Copy)]
 pub struct Judged {
     pub whole: bool,
     pub placed: bool,

@@ -1,4 +1,6 @@
 // Request #107: what the first volume holds, as a list that the caller lends: each module with its file and its words.
+#![tactic(auto)]
+
 ghost use Rattle.std.specs.Prelude.{◌≡◌, [], ◌∷◌, ◌+◌, ◌*◌, ◌≤◌, ◌<◌, length};
 ghost use Rattle.facts.specs.Fact.{Holds, Tells};
 ghost use Rattle.words.specs.Put.{put_all};
@@ -16,6 +18,7 @@ use items::Item;
 
 // How many modules and words there are, and how many entries they have together.
 #[derive(Drop)]
+#[derive(Clone, Copy)]
 pub struct Counts {
     pub modules: usize,
     pub words: usize,
@@ -24,6 +27,7 @@ pub struct Counts {
 
 // Where the next word is listed, and the code of one of 4 bytes: 3 for the image base, then 5.
 #[derive(Drop)]
+#[derive(Clone, Copy)]
 pub struct Next {
     pub at: usize,
     pub code: usize,

@@ -1,4 +1,6 @@
 // Request #107: the headers of a PE32 or TE module.
+#![tactic(auto)]
+
 ghost use Rattle.std.specs.Prelude.{◌≡◌, ◌+◌, ◌*◌, ◌≤◌, ◌<◌, length};
 ghost use Rattle.facts.specs.Fact.{Tells};
 ghost use Rattle.inside_modules.specs.Modules.{counted, kind_fits, from_kind};

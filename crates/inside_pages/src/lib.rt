@@ -1,4 +1,6 @@
 // Request #107: where a page of a module lies, found once for all entries of a relocation block.
+#![tactic(auto)]
+
 ghost use Rattle.std.specs.Prelude.{◌≡◌, ◌+◌, ◌*◌, ◌≤◌, ◌<◌, length};
 ghost use Rattle.facts.specs.Fact.{Tells};
 ghost use Rattle.inside_rows.specs.Rows.{te_kind};
@@ -10,6 +12,7 @@ use inside_rows::{Module, Row};
 // A block's page, and where it would lie in the image: what starts at `floor` or after and ends in `room` is found by adding its offset. No room
 // where that isn't sure.
 #[derive(Drop)]
+#[derive(Clone, Copy)]
 pub struct Page {
     pub page: usize,
     pub at: usize,

@@ -1,4 +1,6 @@
 // Request #107: where a relative address lies in a module.
+#![tactic(auto)]
+
 ghost use Rattle.std.specs.Prelude.{◌≡◌, ◌+◌, ◌*◌, ◌≤◌, ◌<◌, length};
 ghost use Rattle.facts.specs.Fact.{Tells};
 ghost use Rattle.inside_modules.specs.ModulesFit.{Fits};
@@ -8,6 +10,7 @@ use inside_rows::{Module, Row};
 
 // The place of an address, and where the data ends in which it lies. Both are the module's end where it lies in none.
 #[derive(Drop)]
+#[derive(Clone, Copy)]
 pub struct Span {
     pub at: usize,
     pub end: usize,

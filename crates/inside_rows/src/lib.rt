@@ -1,4 +1,6 @@
 // Request #107: what is known of a module, and its section headers.
+#![tactic(auto)]
+
 ghost use Rattle.std.specs.Prelude.{◌≡◌, ◌+◌, ◌*◌, ◌≤◌, ◌<◌, length};
 ghost use Rattle.facts.specs.Fact.{Tells};
 ghost use Rattle.inside_rows.specs.Rows.{no_module, bad_module, row_at, data_fits, rows_fit, judged};
@@ -15,6 +17,7 @@ pub const BAD: u32 = 25;
 // where its second header and its image base stand, and the base's width; place and count of its section headers; the bytes that were
 // stripped (40 for PE32); the relocation directory's address and size.
 #[derive(Drop)]
+#[derive(Clone, Copy)]
 pub struct Module {
     pub kind: u32,
     pub lo: usize,
@@ -31,6 +34,7 @@ pub struct Module {
 
 // A section header: address, size of its data, place of its data.
 #[derive(Drop)]
+#[derive(Clone, Copy)]
 pub struct Row {
     pub va: usize,
     pub raw: usize,

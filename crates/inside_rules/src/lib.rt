@@ -1,4 +1,6 @@
 // Request #107: rules 25, 26 and 27 of all that the first volume contains.
+#![tactic(auto)]
+
 ghost use Rattle.std.specs.Prelude.{◌≡◌, ℕ, ◌+◌, ◌*◌, ◌≤◌, ◌<◌, length};
 ghost use Rattle.facts.specs.Fact.{Tells, Holds};
 ghost use Rattle.table.specs.Passes.{place};

@@ -1,5 +1,7 @@
 // Request #107: the entries of a relocation block that are words of one page, passed in loops over plain numbers, since a module has thousands
 // of them.
+#![tactic(auto)]
+
 ghost use Rattle.std.specs.Prelude.{◌⊎◌, ◌≡◌, ℕ, ◌+◌, ◌*◌, ◌≤◌, ◌<◌, length};
 ghost use Rattle.facts.specs.Fact.{Tells, ◌≤?◌, ◌and◌};
 ghost use Rattle.apart_strokes.specs.Strokes.{Painted};
@@ -9,6 +11,7 @@ use inside_pages::Page;
 
 // How many entries are passed, and where the last of their words ends.
 #[derive(Drop)]
+#[derive(Clone, Copy)]
 pub struct Passed {
     pub count: usize,
     pub low: usize,

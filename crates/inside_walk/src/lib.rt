@@ -1,4 +1,6 @@
 // Request #107: the walk over the files, sections and modules of a volume as one cursor.
+#![tactic(auto)]
+
 ghost use Rattle.std.specs.Prelude.{◌≡◌, ◌+◌, ◌≤◌, ◌<◌, length};
 ghost use Rattle.items.specs.Items.{end_kind};
 ghost use Rattle.inside_files.specs.Parts.{no_part, section_part};
@@ -13,6 +15,7 @@ use items::Item;
 
 // Where the walk stands: among the files, and in a module.
 #[derive(Drop)]
+#[derive(Clone, Copy)]
 pub struct Spot {
     pub place: Place,
     pub m: Module,
@@ -20,6 +23,7 @@ pub struct Spot {
 }
 
 #[derive(Drop)]
+#[derive(Clone, Copy)]
 pub struct Move {
     pub item: Item,
     pub next: Spot,

@@ -1,4 +1,5 @@
 // What the walk over a volume meets, one after the other.
+#![tactic(auto)]
 
 // The kinds of items: nothing is left, bytes that are looked at, a word that moves, an entry that is passed over, an entry of another type, what
 // isn't there as it should be, a word outside its module.
@@ -18,6 +19,7 @@ pub const LOST: u32 = 6;
 
 // The number of a kind; then the place and the count of its bytes.
 #[derive(Drop)]
+#[derive(Clone, Copy)]
 pub struct Item {
     pub kind: u32,
     pub at: usize,

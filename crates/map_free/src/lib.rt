@@ -1,4 +1,6 @@
 // Request #111: the runs of free bytes, found one after the other in a table whose rows ascend: each row is passed once.
+#![tactic(auto)]
+
 ghost use Rattle.std.specs.Prelude.{true, false, ◌≡◌, ◌⊎◌, ◌+◌, ◌^◌, ◌≤◌, ◌<◌};
 ghost use Rattle.map_ranges.specs.Ranges.{range};
 ghost use Rattle.map_ranges.specs.Table.{row_at, ranges_in};
@@ -6,6 +8,7 @@ ghost use Rattle.map_free.specs.Look.{reach_of, Table, Swept, TakesRow, Advances
 
 // How many rows are passed; whether there is memory among them, and its highest byte; the same of reserved ranges.
 #[derive(Drop)]
+#[derive(Clone, Copy)]
 pub struct Reach {
     pub i: usize,
     pub memory: bool,
@@ -16,6 +19,7 @@ pub struct Reach {
 
 // Whether a byte is free, and up to which byte all are as it is.
 #[derive(Drop)]
+#[derive(Clone, Copy)]
 pub struct Stretch {
     pub free: bool,
     pub last: u64,
@@ -23,6 +27,7 @@ pub struct Stretch {
 
 // A run of free bytes, if there is one, and how far the sweep has come.
 #[derive(Drop)]
+#[derive(Clone, Copy)]
 pub struct Found {
     pub found: bool,
     pub first: u64,
@@ -32,6 +37,7 @@ pub struct Found {
 
 // Where a run ends.
 #[derive(Drop)]
+#[derive(Clone, Copy)]
 pub struct Ended {
     pub last: u64,
     pub sweep: Reach,

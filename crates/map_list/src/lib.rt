@@ -1,4 +1,6 @@
 // Request #111: the memory map of a hand-off list.
+#![tactic(auto)]
+
 ghost use Rattle.std.specs.Prelude.{◌≡◌, ◌+◌, ◌*◌, ◌≤◌, length};
 ghost use Rattle.words.specs.Put.{put};
 ghost use Rattle.map_ranges.specs.Table.{ranges_in};
@@ -8,6 +10,7 @@ ghost use Rattle.map_list.specs.MapLaws.{Written};
 
 // Number 0 and how many runs of free bytes there are, or a refusal's number and 0.
 #[derive(Drop)]
+#[derive(Clone, Copy)]
 pub struct Mapped {
     pub number: u32,
     pub count: usize,

@@ -1,4 +1,6 @@
 // Request #111: a place for an image in the free memory of a hand-off list.
+#![tactic(auto)]
+
 ghost use Rattle.std.specs.Prelude.{◌≡◌, ◌≤◌, ◌<◌};
 ghost use Rattle.map_ranges.specs.Table.{ranges_in};
 ghost use Rattle.map_free.specs.Free.{span, memory_map};
@@ -8,6 +10,7 @@ ghost use Rattle.map_place.specs.PlaceLaws.{base_in};
 
 // Number 0 and the base, or a refusal's number and 0.
 #[derive(Drop)]
+#[derive(Clone, Copy)]
 pub struct Placed {
     pub number: u32,
     pub base: u64,

@@ -1,4 +1,6 @@
 // Request #111: the ranges of memory that a hand-off list names, gathered into a table in one walk, and the refusals 30 to 35.
+#![tactic(auto)]
+
 ghost use Rattle.std.specs.Prelude.{◌≡◌, ◌+◌, ◌*◌, ◌^◌, ◌≤◌, ◌<◌, length};
 ghost use Rattle.facts.specs.Fact.{Tells, Holds};
 ghost use Rattle.handoff_step.specs.Step.{type_at};
@@ -9,6 +11,7 @@ ghost use Rattle.map_ranges.specs.Gathering.{Gathers, Takes, refused_ranges, Fin
 
 // The number of 30 to 35, or 0 and how many ranges there are.
 #[derive(Drop)]
+#[derive(Clone, Copy)]
 pub struct Gathered {
     pub number: u32,
     pub count: usize,
@@ -16,6 +19,7 @@ pub struct Gathered {
 
 // 34 once a range ends above 2^64, else 0; and how many ranges are counted.
 #[derive(Drop)]
+#[derive(Clone, Copy)]
 pub struct Taken {
     pub number: u32,
     pub count: usize,

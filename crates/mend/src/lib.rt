@@ -1,4 +1,6 @@
 // Document 02, #110: put stray bytes back.
+#![tactic(auto)]
+
 ghost use Rattle.std.specs.Prelude.{◌≡◌};
 ghost use Rattle.audit.specs.Audit.{refused_audit};
 ghost use Rattle.mend.specs.Mend.{Mends, MendsBytes};

@@ -1,4 +1,6 @@
 // Document 02, #110: the stray bytes of a file put back, of which the audit has judged that it belongs to the vendor image.
+#![tactic(auto)]
+
 ghost use Rattle.std.specs.Prelude.{◌≡◌, ◌+◌, ◌^◌, ◌≤◌, ◌<◌, length};
 ghost use Rattle.reading_rules.specs.Reading.{reading2, Read2};
 ghost use Rattle.move_image.specs.Moving.{move_to};

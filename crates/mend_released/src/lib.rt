@@ -1,1 +1,2 @@
 // Theorems alone: what is mended could have been released.
+#![tactic(auto)]

@@ -1,4 +1,6 @@
 // Document 01, "Moving": the answer of a release, and how far it went.
+#![tactic(auto)]
+
 ghost use Rattle.std.specs.Prelude.{◌≡◌, ◌^◌, ◌≤◌, pos, ◌-ℤ◌};
 ghost use Rattle.move_answer.specs.MoveAnswer.{refused_move, accepted_move, Magnitude};
 

@@ -1,4 +1,6 @@
 // Request #107: the words of a volume's modules moved, while the walk goes over them.
+#![tactic(auto)]
+
 ghost use Rattle.std.specs.Prelude.{◌≡◌, ◌^◌, ◌<◌, length};
 ghost use Rattle.facts.specs.Fact.{Holds};
 ghost use Rattle.moves.specs.Moves.{difference, moved};

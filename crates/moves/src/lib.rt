@@ -1,1 +1,2 @@
 // Moving a list of words, of whatever kind: definitions and laws only.
+#![tactic(auto)]

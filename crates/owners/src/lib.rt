@@ -1,10 +1,13 @@
 // Document 02, #106: the owner list and its rule. Whether a sheet's bytes are all of one owner's is `owners_check`.
+#![tactic(auto)]
+
 ghost use Rattle.std.specs.Prelude.{◌≡◌, ◌+◌, ◌-◌, ◌*◌, ◌≤◌, ◌<◌, length};
 ghost use Rattle.facts.specs.Fact.{Tells};
 ghost use Rattle.owners.specs.Owners.{range_at, known_owner, range_fits, list_fits, owners_fit};
 
 // A range of the list.
 #[derive(Drop)]
+#[derive(Clone, Copy)]
 pub struct Range {
     pub offset: usize,
     pub size: usize,
@@ -97,6 +100,7 @@ pub fn owners_fit(owners: &[u8], owner: usize, z: usize) -> bool
 
 // Whether the bytes of a run are all one owner's, and the range where the walk stands.
 #[derive(Drop)]
+#[derive(Clone, Copy)]
 pub struct Walked {
     pub all: bool,
     pub at: usize,

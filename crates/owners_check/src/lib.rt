@@ -1,4 +1,6 @@
 // Request #106: whether the bytes of a sheet lie in the ranges of its owner.
+#![tactic(auto)]
+
 ghost use Rattle.std.specs.Prelude.{ℕ, ◌+◌, ◌-◌, ◌≤◌, ◌<◌};
 ghost use Rattle.facts.specs.Fact.{Holds, Tells, every};
 ghost use Rattle.sheet.specs.Sheet.{sheet_fits};

@@ -1,4 +1,6 @@
 // Request #114, for C: a pile of sheets folded into one. The call answers in a lent buffer, as the others do.
+#![tactic(auto)]
+
 ghost use Rattle.std.specs.Prelude.{◌≡◌, ◌≤◌, length};
 ghost use Rattle.words.specs.Put.{put_all};
 ghost use Rattle.pajurenda_fold.specs.Promises.{fold_fields, FoldCall};

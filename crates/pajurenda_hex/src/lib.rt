@@ -1,4 +1,6 @@
 // Request #112, for C: the Intel HEX text of an image, both ways. A call answers in a lent buffer, as the others do.
+#![tactic(auto)]
+
 ghost use Rattle.std.specs.Prelude.{◌≡◌, ◌≤◌, length};
 ghost use Rattle.words.specs.Put.{put_all};
 ghost use Rattle.pajurenda_hex.specs.Promises.{export_fields, import_fields, ExportCall, ImportCall};

@@ -1,4 +1,6 @@
 // Request #111, for C: the memory map of a hand-off list, and a place for an image in it. A call answers in a lent buffer, as the others do.
+#![tactic(auto)]
+
 ghost use Rattle.std.specs.Prelude.{◌≡◌, ◌≤◌, length};
 ghost use Rattle.words.specs.Put.{put_all};
 ghost use Rattle.pajurenda_map.specs.Promises.{map_fields, place_fields, MapCall, PlaceCall};

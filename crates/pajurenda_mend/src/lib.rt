@@ -1,4 +1,6 @@
 // Request #110, for C: stray bytes put back. The call answers in a lent buffer, as the audit does.
+#![tactic(auto)]
+
 ghost use Rattle.pajurenda_mend.specs.Promises.{MendCall};
 
 // Audits a shipped file against the vendor's image and puts its stray bytes back.

@@ -1,4 +1,6 @@
 // SHA-256 for C: the digest goes into the first 32 bytes of the answer's buffer.
+#![tactic(auto)]
+
 ghost use Rattle.digest.specs.Digest.{Digests};
 
 #[unsafe(no_mangle)]

@@ -1,4 +1,6 @@
 // Document 01, "The audit": what is counted of the differences between the reference and a shipped file.
+#![tactic(auto)]
+
 ghost use Rattle.std.specs.Prelude.{◌≡◌, ◌+◌, ◌^◌, ◌≤◌, ◌<◌, length};
 ghost use Rattle.facts.specs.Fact.{Tells};
 ghost use Rattle.reading_rules.specs.Guarantee.{Guaranteed};
@@ -33,6 +35,7 @@ fn byte_flips(x: u8, y: u8) -> u32
 
 // What is counted of all differences.
 #[derive(Drop)]
+#[derive(Clone, Copy)]
 pub struct Counts {
     pub settings: usize,
     pub strays: usize,

@@ -1,5 +1,7 @@
 // Document 01, "The audit": two stretches of bytes compared, 32 or eight at a time where they are the same. The first starts at position o:
 // its byte at k is a[k - o], and the second's is b[k].
+#![tactic(auto)]
+
 ghost use Rattle.std.specs.Prelude.{true, ◌≡◌, ◌+◌, ◌≤◌, length};
 ghost use Rattle.piece_stretch.specs.Stretch.{after, SameBytes, Until};
 

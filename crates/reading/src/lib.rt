@@ -1,5 +1,7 @@
 // Document 01, "Reading an image": rules 1 to 9 in their order, each stage a check or two and then the next; the rules after 9 are in
 // `reading_entries`.
+#![tactic(auto)]
+
 ghost use Rattle.std.specs.Prelude.{◌≡◌, ◌+◌, ◌-◌, ◌≤◌, ◌<◌, length};
 ghost use Rattle.facts.specs.Fact.{Holds};
 ghost use Rattle.facts.specs.Rules.{run};

@@ -1,4 +1,6 @@
 // Document 01, "Reading an image", from the configuration region on: rules 10 to 14, document 02's 22 after 12, and its 25 to 27 after 14.
+#![tactic(auto)]
+
 ghost use Rattle.std.specs.Prelude.{◌≡◌, ◌+◌, ◌-◌, ◌*◌, ◌≤◌, length};
 ghost use Rattle.facts.specs.Fact.{Holds};
 ghost use Rattle.facts.specs.Rules.{run};

@@ -1,5 +1,7 @@
 // The answer of a reading: what document 01 gives for an image, and the refusals. The rules in their order are in `reading` and
 // `reading_entries`.
+#![tactic(auto)]
+
 ghost use Rattle.std.specs.Prelude.{◌≡◌, ◌+◌, ◌*◌, ◌≤◌, length};
 ghost use Rattle.facts.specs.Fact.{Holds};
 ghost use Rattle.words.specs.Le.{le};

@@ -1,4 +1,6 @@
 // Rules 10 and 11 of document 01: the configuration region.
+#![tactic(auto)]
+
 ghost use Rattle.std.specs.Prelude.{◌+◌, ◌≤◌, ◌≡◌, length};
 ghost use Rattle.facts.specs.Fact.{Tells};
 ghost use Rattle.region.specs.Region.{region_fits, letter, marks_fit};

@@ -1,4 +1,6 @@
 // Document 02, #105 and #106: one call to release, by one owner.
+#![tactic(auto)]
+
 ghost use Rattle.release.specs.Release.{Releases};
 
 use answers::Moved;

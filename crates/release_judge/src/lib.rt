@@ -1,4 +1,6 @@
 // Document 02, #105 and #106: what a release is judged by, once its image reads: sheet, owner list, owner and base. Nothing is changed here.
+#![tactic(auto)]
+
 ghost use Rattle.std.specs.Prelude.{◌≡◌, ◌^◌, ◌≤◌};
 ghost use Rattle.facts.specs.Fact.{Holds};
 ghost use Rattle.facts.specs.Rules.{run};

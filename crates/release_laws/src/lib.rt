@@ -1,1 +1,2 @@
 // Definitions alone: what a release does, over the definitions of its promise.
+#![tactic(auto)]

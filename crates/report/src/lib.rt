@@ -1,4 +1,6 @@
 // The audit's program: reads two files, vendor.bin and shipped.bin in the folder that it is run in, and writes what `text_output::report` makes of them.
+#![tactic(auto)]
+
 ghost use Rattle.std.specs.Prelude.{◌≤◌, length};
 
 use libc::STDOUT_FILENO;

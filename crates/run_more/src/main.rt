@@ -4,6 +4,8 @@
 //   4  no vendor.bin                            5  no shipped.bin
 //   6  base FFF80000, nothing differs           7  differences at 0, at the last byte and around both ends of the settings
 //   8  256 differences                          9  257
+#![tactic(auto)]
+
 use libc::STDOUT_FILENO;
 
 fn run(folder: u8) {

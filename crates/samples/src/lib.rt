@@ -1,1 +1,2 @@
 // Definitions alone: the sample table of document 01, its rows marked (P).
+#![tactic(auto)]

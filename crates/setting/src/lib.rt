@@ -1,4 +1,6 @@
 // Document 01, "One setting".
+#![tactic(auto)]
+
 ghost use Rattle.std.specs.Prelude.{◌≡◌};
 ghost use Rattle.facts.specs.Fact.{Tells};
 ghost use Rattle.setting.specs.Finding.{Finds};

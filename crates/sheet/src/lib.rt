@@ -1,4 +1,6 @@
 // Document 01, "The release sheet".
+#![tactic(auto)]
+
 ghost use Rattle.std.specs.Prelude.{◌≡◌, ◌+◌, ◌-◌, ◌*◌, ◌≤◌, ◌<◌, length};
 ghost use Rattle.facts.specs.Fact.{Holds, Tells, every};
 ghost use Rattle.sheet.specs.Sheet.{sheet_identity, count, offset, size, position, entry_at, follows, contents_fit, bodies_fit, sheet_fits, same_identity, in_field, field_fits};
@@ -8,6 +10,7 @@ use answers::Identity;
 
 // An entry of a sheet.
 #[derive(Drop)]
+#[derive(Clone, Copy)]
 pub struct Entry {
     pub offset: usize,
     pub size: usize,
@@ -169,6 +172,7 @@ pub fn fields_fit(sheet: &[u8], z: usize) -> bool
 
 // A sheet read by itself: number 0, its entries and the identity that it names; or 15 and zeros.
 #[derive(Drop)]
+#[derive(Clone, Copy)]
 pub struct SheetReading {
     pub number: u32,
     pub count: usize,

@@ -1,4 +1,6 @@
 // Document 01, "The release sheet": the bodies of its entries set in an image.
+#![tactic(auto)]
+
 ghost use Rattle.std.specs.Prelude.{◌≡◌, ◌+◌, ◌-◌, ◌≤◌, ◌<◌, length};
 ghost use Rattle.reading_rules.specs.Guarantee.{Guaranteed};
 ghost use Rattle.sheet.specs.Sheet.{Sound, count, offset, size, position};

@@ -1,9 +1,12 @@
 // Request #108: the bench's station. The call-order state is a record lent to be changed in place; each call reads it, runs the step of
 // `station_order` and stores the next state. What is lent is proved by a walk of the code, by hand.
+#![tactic(auto)]
+
 ghost use Rattle.station.specs.Station.{Calls, Resets, CallsFrom, ResetsFrom};
 
 // The call-order state. Anyone may make one up: a number that is no state of ours has nothing in order.
 #[derive(Drop)]
+#[derive(Clone, Copy)]
 pub struct Station {
     pub state: u32,
 }

@@ -1,4 +1,6 @@
 // Request #108: the bench's station, its state lent as eight bytes.
+#![tactic(auto)]
+
 ghost use Rattle.std.specs.Prelude.{◌≡◌, ◌≤◌, length};
 ghost use Rattle.words.specs.Put.{put};
 ghost use Rattle.station_order.specs.Order.{at_reset};

@@ -1,4 +1,6 @@
 // Request #108: one step of the call order, by value: from a state and a call with its notification to the answer and the next state.
+#![tactic(auto)]
+
 ghost use Rattle.std.specs.Prelude.{◌≡◌, drop};
 ghost use Rattle.facts.specs.Fact.{Tells, ◌≡?◌, ◌and◌};
 ghost use Rattle.station_order.specs.Order.{table, noted, of_call, some, refusal, accepted, by_rows, Orders};
@@ -36,6 +38,7 @@ pub const NONE: u64 = 0;
 
 // The number, 0 where the call is in order, and the state afterwards.
 #[derive(Drop)]
+#[derive(Clone, Copy)]
 pub struct Answer {
     pub number: u32,
     pub state: u32,

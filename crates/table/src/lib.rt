@@ -1,5 +1,7 @@
 // Rules 12 and 13 of document 01 and 22 of document 02: where an entry of the patch table points. The rules over the whole table are
 // `table_found` and `table_scans`.
+#![tactic(auto)]
+
 ghost use Rattle.std.specs.Prelude.{◌≡◌, ◌+◌, ◌*◌, ◌≤◌, length};
 ghost use Rattle.words.specs.Round.{round4};
 ghost use Rattle.facts.specs.Fact.{Tells};
@@ -16,6 +18,7 @@ pub fn round_4(n: usize) -> usize
 
 // Where an entry points: a place with number 0, or the number of its refusal with place 0.
 #[derive(Drop)]
+#[derive(Clone, Copy)]
 pub struct Place {
     pub number: u32,
     pub at: usize,

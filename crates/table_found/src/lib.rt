@@ -1,4 +1,6 @@
 // Rule 9 of document 01: the extended header and the patch table, each whole before the section's end.
+#![tactic(auto)]
+
 ghost use Rattle.std.specs.Prelude.{◌≤◌, length};
 ghost use Rattle.facts.specs.Fact.{Tells};
 ghost use Rattle.table.specs.Table.{extended, extended_fits, patch_fits};

@@ -1,4 +1,6 @@
 // Rules 12 to 14 of document 01 and 22 of document 02 over all entries: the first that is refused, and the first whose word isn't clear.
+#![tactic(auto)]
+
 ghost use Rattle.std.specs.Prelude.{true, ◌⊎◌, ◌≡◌, ℕ, ◌+◌, ◌*◌, ◌≤◌, ◌<◌, length};
 ghost use Rattle.facts.specs.Fact.{Holds, Tells};
 ghost use Rattle.facts.specs.First.{first_fault};

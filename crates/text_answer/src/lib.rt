@@ -1,4 +1,6 @@
 // The text of an audit's answer, into a lent buffer.
+#![tactic(auto)]
+
 ghost use Rattle.std.specs.Prelude.{◌+◌, ◌*◌, ◌≤◌, ◌<◌, length, take};
 ghost use Rattle.text_lines.specs.Lines.{Wrote};
 ghost use Rattle.text_answer.specs.Told.{heading, place_line, place_lines, refusal, told};

@@ -1,4 +1,6 @@
 // Text into a lent buffer: each function writes from `at` on and hands back the place after what it wrote.
+#![tactic(auto)]
+
 ghost use Rattle.std.specs.Prelude.{◌≡◌, ◌+◌, ◌≤◌, ◌<◌, [], ◌∷◌, length};
 ghost use Rattle.text_lines.specs.Text.{decimal, hex_digits};
 ghost use Rattle.text_lines.specs.Text.{hex_digit as Text·hexDigit};

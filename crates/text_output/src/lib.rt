@@ -1,4 +1,6 @@
 // What the audit's program prints of two files.
+#![tactic(auto)]
+
 ghost use Rattle.std.specs.Prelude.{◌≡◌, ◌≤◌, length};
 ghost use Rattle.text_lines.specs.Lines.{Wrote};
 ghost use Rattle.text_output.specs.Output.{audit_text, Takes, Reported};

@@ -1,4 +1,6 @@
 // Rules 1 and 2 of document 01 but for the extension: the image's length and its volume. Rules 3 and 4 are in `volume_file`.
+#![tactic(auto)]
+
 ghost use Rattle.std.specs.Prelude.{◌≡◌, ◌+◌, ◌*◌, ◌≤◌, ◌<◌, length};
 ghost use Rattle.facts.specs.Fact.{Tells};
 ghost use Rattle.volume.specs.Volume.{length_fits, sum_words, volume_fits};

@@ -1,4 +1,6 @@
 // Rule 2 of document 01: the volume header's extension, and where the file after it starts.
+#![tactic(auto)]
+
 ghost use Rattle.std.specs.Prelude.{◌≡◌, ◌≤◌, ◌<◌, length};
 ghost use Rattle.words.specs.Round.{round8};
 ghost use Rattle.facts.specs.Fact.{Tells};

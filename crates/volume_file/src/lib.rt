@@ -1,4 +1,6 @@
 // Rules 3 and 4 of document 01: the header file, with its GUID and its header's sum, and its section.
+#![tactic(auto)]
+
 ghost use Rattle.std.specs.Prelude.{◌≡◌, ◌+◌, ◌*◌, ◌≤◌, length};
 ghost use Rattle.facts.specs.Fact.{Tells};
 ghost use Rattle.volume.specs.Volume.{same_at, guid, sum_bytes, file_sum, file_held, file_fits, section_held, room_fits, section_fits};
