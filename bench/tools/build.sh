@@ -7,10 +7,9 @@ afresh
 try 1 "$audit"
 prints "$work/sample"
 tells 'nothing is built here yet'
-wanted=$(eval "$(sed -n '/^stands_on() {/,/^}/p' "$root/tools/common")"; for crate in $c_crates; do stands_on "$crate"; done | wc -l)
-last=$(eval "$(sed -n '/^stands_on() {/,/^}/p' "$root/tools/common")"; stands_on pajurenda | wc -l)
+wanted=$(eval "$(sed -n '/^stands_on() {/,/^}/p' "$root/tools/common")"; stands_on "$c_crate" | wc -l)
 tells_lines "$wanted" ' left'
-tells "$((last - 1)) left"
+tells "$((wanted - 1)) left"
 tells ' 0 left'
 called 1
 nothing_about
@@ -60,7 +59,7 @@ lacks "$clone/target/c/another"
 # a library that isn't proved, C that doesn't compile: no command
 afresh
 try 2 env TRY_HOW=fails "$audit"
-tells 'rt: facts NOT PROVED'
+tells 'fn facts::f: not proved'
 tells 'the library is not proved'
 lacks "$clone/target/c"
 afresh
@@ -99,13 +98,11 @@ else
 	not_run="$not_run; a clone that can't be written (no other user can be had)"
 fi
 
-# with rt itself, over the crates as they are proved
+# with rt itself, which takes what it proved of the same crates in this checkout
 if [ "$part" = all ]; then
 	afresh
-	mkdir "$clone/target"
-	cp -R "$root/target/rlib" "$root/target/stamp" "$clone/target/"
 	rm -rf "$clone/crates" "$clone/tools" "$clone/crates.txt"
-	(cd "$root" && cp -R crates crates.txt tools "$clone/")
+	copied crates crates.txt tools
 	try 1 env PATH="$own_path" "$audit"
 	prints "$work/sample"
 	tells ' 0 left'

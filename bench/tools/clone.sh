@@ -9,56 +9,55 @@ refused=$clone/crates/run_refused
 short=$clone/crates/run_short
 mkdir "$clone" "$work/stand-in" "$work/compilers" "$work/tmp"
 chmod 1777 "$work/tmp"
-(cd "$root" && cp -R crates crates.txt command include example tools "$clone/")
+# copied NAME..: into the clone, but what rt made in crates/*/out
+copied() { (cd "$root" && tar -c --exclude='crates/*/out' "$@") | tar -x -C "$clone"; }
+copied crates crates.txt command include example tools
+# what rt makes of the C crate
 cp "$root/target/staticlib/libpajurenda.a" "$work/archive"
-# what rt makes of each C crate: of the first the archive without the others' objects
-c_crates=$(sed -n "s/^crates='\(.*\)'\$/\1/p" "$root/tools/common")
-joiner=$(dirname "$(dirname "$("$rt" doc)")")/on/$(uname -m)/toolchain/bin/llvm-ar
-for crate in $c_crates; do
-	cp "$root/target/staticlib/lib$crate.a" "$work/lib$crate.a"
-done
-"$joiner" t "$work/archive" | grep '^pajurenda_' | while read object; do
-	"$joiner" d "$work/libpajurenda.a" "$object"
-done
+c_crate=$(sed -n 's/^crate=//p' "$root/tools/common")
 export TMPDIR="$work/tmp" TRY="$work"
 
-# what the stand-in is to do: prove (nothing), hang, be stubborn, fail, or be slow
+# what the stand-in is to do: prove (nothing), hang, be stubborn, fail, or be slow. It says what rt says, in a crate's folder
 cat >"$work/stand-in/rt" <<'END'
 #!/bin/sh
 case $1 in
 version | doc) exec "$TRY_RT" "$@" ;;
 esac
 echo "$*" >>"$TRY/calls"
+name=$(basename "$PWD")
+[ -d src ] || { echo "rt: no crate in $PWD"; exit 2; }
 case ${TRY_HOW-} in
-fails) echo 'rt: facts NOT PROVED (exit 1, 0 s)'; exit 1 ;;
+fails) echo 'fn facts::f: not proved'; exit 1 ;;
 slow) sleep 1 ;;
 stubborn) trap '' TERM ;;
 esac
-crates=$(awk -F: '/^[a-z]/ { print $1 }' crates.txt)
+# proved CRATE..
+proved() {
+	for crate in "$@"; do
+		printf 'fn %s::f: proved\ncrate %s: modules loaded=0 checked=1\nlogic=proved functions=1\n' "$crate" "$crate"
+	done
+}
 case $1:${TRY_HOW-} in
 *:hangs | *:stubborn)
 	[ "$TRY_HOW" = stubborn ] || trap 'echo told >"$TRY/told"; exit 143' TERM
-	echo 'rt: facts proved (0 s)' >&2
+	proved facts
 	mktemp >/dev/null
 	sleep 60 &
 	echo "$$ $!" >"$TRY/pids"
 	wait
 	;;
-staticlib:*)
+lib:*)
 	# the order of tools/common, which has the wanted crate last
-	root=.
-	eval "$(sed -n '/^stands_on() {/,/^}/p' tools/common)"
-	for crate in $(stands_on "$2"); do
-		[ "$crate" = "$2" ] || echo "rt: $crate proved (0 s)" >&2
-	done
-	mkdir -p target/staticlib
-	cp "$TRY/lib$2.a" "target/staticlib/lib$2.a"
-	echo "rt: target/staticlib/lib$2.a has the functions"
+	root=../..
+	eval "$(sed -n '/^stands_on() {/,/^}/p' ../../tools/common)"
+	proved $(stands_on "$name")
+	mkdir -p out
+	cp "$TRY/archive" "out/lib$name.a"
 	;;
-check:*)
-	mkdir -p target/bin
-	cp "$TRY/program" target/bin/run_sample
-	echo 'rt: run_sample proved (0 s)'
+run:*)
+	proved "$name"
+	mkdir -p out
+	cp "$TRY/program" "out/$name"
 	;;
 esac
 END
@@ -96,7 +95,7 @@ PATH=$tried_path
 
 # afresh: nothing is built, nothing was called, nothing lies about
 afresh() {
-	rm -rf "$clone/target" "$work/calls" "$work/pids" "$work/told"
+	rm -rf "$clone/target" "$clone"/crates/*/out "$work/calls" "$work/pids" "$work/told"
 	nothing_about
 }
 
@@ -107,11 +106,10 @@ nothing_about() {
 	passed
 }
 
-# called TIMES: so often was the prover asked for all C crates, one after the other
+# called TIMES: so often was the prover asked for the C crate
 called() {
 	times=0
 	[ ! -f "$work/calls" ] || times=$(wc -l <"$work/calls")
-	wanted_times=$(($1 * $(echo "$c_crates" | wc -w)))
-	[ "$times" -eq "$wanted_times" ] || fail "the prover was called $times times, not $wanted_times"
+	[ "$times" -eq "$1" ] || fail "the prover was called $times times, not $1"
 	passed
 }

@@ -11,8 +11,9 @@ mkdir "$work/no-cc"
 	done
 )
 (cd "$work/no-cc" && rm -f cc gcc gcc-* clang clang-* ./*-gcc ./*-gcc-* ./*-cc c99 c99-gcc c89 c89-gcc tcc apt-get)
-[ -f "$root/target/bin/run_sample" ] || (cd "$root" && "$rt" check run_sample) >"$work/out" 2>&1 || { what='rt check run_sample'; fail "not proved"; }
-cp "$root/target/bin/run_sample" "$work/program"
+made=$root/crates/run_sample/out/run_sample
+[ -f "$made" ] || (cd "$root/crates/run_sample" && "$rt" run) >"$work/out" 2>&1 || { what='rt run in crates/run_sample'; fail "not proved"; }
+cp "$made" "$work/program"
 afresh
 PATH=$work/stand-in:$work/no-cc
 audit=$clone/tools/audit

@@ -44,7 +44,7 @@ if command -v pkg-config >/dev/null; then
 	program_emulator=
 	if [ "$(uname -m)" != x86_64 ]; then
 		program_link=-static
-		program_emulator=$(dirname "$(dirname "$("$rt" doc)")")/on/$(uname -m)/toolchain/bin/qemu-x86_64
+		program_emulator=$(command -v qemu-x86_64)
 	fi
 	words=$(PKG_CONFIG_PATH=$work/p/lib/pkgconfig pkg-config --cflags --libs pajurenda)
 	version=$(PKG_CONFIG_PATH=$work/p/lib/pkgconfig pkg-config --modversion pajurenda)

@@ -2,7 +2,6 @@
 #![tactic(auto)]
 
 // What tells one release of an image from another: the image identity, the revision, and the extended number.
-#[derive(Drop)]
 #[derive(Clone, Copy)]
 pub struct Identity {
     pub image: u64,
@@ -11,7 +10,6 @@ pub struct Identity {
 }
 
 // The answer of a reading: number 0 and the fields, or the refusal's number and index and zero in every other field.
-#[derive(Drop)]
 #[derive(Clone, Copy)]
 pub struct Reading {
     pub number: u32,
@@ -27,7 +25,6 @@ pub struct Reading {
 }
 
 // The answer of a release: number 0 and the move, new base minus old; or the refusal's number and index.
-#[derive(Drop)]
 #[derive(Clone, Copy)]
 pub struct Moved {
     pub number: u32,
@@ -36,7 +33,6 @@ pub struct Moved {
 }
 
 // The answer of an audit: number 0 or 20 and the base and counts, or another refusal's number and index and zeros.
-#[derive(Drop)]
 #[derive(Clone, Copy)]
 pub struct Audited {
     pub number: u32,
@@ -49,7 +45,6 @@ pub struct Audited {
 }
 
 // The answer: number 0 or 20 and the counts, or another refusal's number and index and zeros.
-#[derive(Drop)]
 #[derive(Clone, Copy)]
 pub struct Listed {
     pub number: u32,
@@ -60,7 +55,6 @@ pub struct Listed {
 }
 
 // The answer of a lookup: number 0 and where in the image the setting stands, or the refusal's number and zeros.
-#[derive(Drop)]
 #[derive(Clone, Copy)]
 pub struct Found {
     pub number: u32,

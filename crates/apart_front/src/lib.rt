@@ -8,7 +8,6 @@ use items::Item;
 
 // All that is passed lies below low or in high..top, so that low..high and all from top on is free. A top of 1 TiB or more, below which every
 // item ends, says that something came out of order. (A flag would pad the struct, and copying the padding costs more than all comparisons.)
-#[derive(Drop)]
 #[derive(Clone, Copy)]
 pub struct Front {
     pub low: usize,

@@ -20,7 +20,6 @@ use inside_walk::Spot;
 use items::Item;
 
 // The spot up to which all that is passed ends by the window's end; and the highest end of what is passed.
-#[derive(Drop)]
 #[derive(Clone, Copy)]
 pub struct Trail {
     pub spot: Spot,
@@ -28,7 +27,6 @@ pub struct Trail {
 }
 
 // Whether some items could be marked, and the highest end of what is passed.
-#[derive(Drop)]
 #[derive(Clone, Copy)]
 pub struct Reach {
     pub ok: bool,
@@ -36,7 +34,6 @@ pub struct Reach {
 }
 
 // Whether a window is clear, and where the scan of the next one starts.
-#[derive(Drop)]
 #[derive(Clone, Copy)]
 pub struct Scan {
     pub ok: bool,

@@ -38,7 +38,6 @@ fn byte_flips(x: u8, y: u8) -> u32
 }
 
 // What is counted so far, and where the walk stands: no difference before `at` is left to count.
-#[derive(Drop)]
 #[derive(Clone, Copy)]
 pub struct Tally {
     pub at: usize,
@@ -208,7 +207,6 @@ fn walk_all(
 }
 
 // What is counted of all differences.
-#[derive(Drop)]
 #[derive(Clone, Copy)]
 pub struct Counts {
     pub settings: usize,

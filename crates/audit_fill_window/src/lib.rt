@@ -20,7 +20,6 @@ use items::Item;
 
 // The marks tell the words that start in from..to-1. The next one stands at `at` and has `width` bytes; at `to` the window is used up. The
 // walk that fills the next window starts at `spot`.
-#[derive(Drop)]
 #[derive(Clone, Copy)]
 pub struct Window {
     pub from: usize,
@@ -31,7 +30,6 @@ pub struct Window {
 }
 
 // Where the next word stands, and how many bytes it has.
-#[derive(Drop)]
 #[derive(Clone, Copy)]
 pub struct Mark {
     pub at: usize,
@@ -39,7 +37,6 @@ pub struct Mark {
 }
 
 // Where a window's walk starts, and a place below which no word ahead of it starts.
-#[derive(Drop)]
 #[derive(Clone, Copy)]
 pub struct Found {
     pub spot: Spot,

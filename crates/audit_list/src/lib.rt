@@ -17,7 +17,6 @@ use audit_fill_window::{Mark, Window};
 use audit_tables::Ahead;
 
 // How many places are filled, and where the walk stands.
-#[derive(Drop)]
 #[derive(Clone, Copy)]
 pub struct Fill {
     pub at: usize,

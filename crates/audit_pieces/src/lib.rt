@@ -18,7 +18,6 @@ use items::Item;
 
 // The positions from the last piece's end up to `from` are the vendor's own; those from there up to `to` stand in the window. The walk over the
 // modules goes on at `spot`; where `low` is past `to`, no word that is ahead of it starts below `low`.
-#[derive(Drop)]
 #[derive(Clone, Copy)]
 pub struct Piece {
     pub from: usize,

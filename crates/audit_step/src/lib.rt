@@ -12,7 +12,6 @@ ghost use Rattle.audit_step.specs.Stride.{Reach, Coming, ending, by, InWord, Ali
 use answers::Reading;
 
 // Where a step of the walk ends, and whether at a difference.
-#[derive(Drop)]
 #[derive(Clone, Copy)]
 pub struct Step {
     pub at: usize,

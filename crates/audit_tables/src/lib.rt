@@ -10,7 +10,6 @@ ghost use Rattle.audit_tables.specs.Ahead.{started, Rest, Known};
 use answers::Reading;
 
 // The place of the nearest that isn't passed, or the image's length; and where in the list the one after it stands.
-#[derive(Drop)]
 #[derive(Clone, Copy)]
 pub struct Ahead {
     pub first: usize,

@@ -21,7 +21,6 @@ use inside_walk::Spot;
 use items::Item;
 
 // Where a window's walk starts, and from where on words may stand that are ahead of it.
-#[derive(Drop)]
 #[derive(Clone, Copy)]
 pub struct Found {
     pub spot: Spot,

@@ -115,7 +115,6 @@ pub fn write_listed(answer: &mut [u8], r: Listed)
 }
 
 // A kind of hand-off block as numbers: which, and its own data.
-#[derive(Drop)]
 #[derive(Clone, Copy)]
 pub struct KindFields {
     pub kind: u64,

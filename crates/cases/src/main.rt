@@ -5,9 +5,11 @@
 // each, as an audit's, or the bytes of buffer 2, as many as the low half of b says.
 #![tactic(auto)]
 
-use libc::{STDIN_FILENO, STDOUT_FILENO};
+ghost use Rattle.std.specs.Prelude.{◌≤◌, IfOk, length};
 
-#[derive(Drop)]
+use std::io;
+use std::io::Read;
+
 #[derive(Clone, Copy)]
 struct Record {
     which: usize,
@@ -20,98 +22,96 @@ struct Record {
     b: usize,
 }
 
-fn field(n: u64) {
-    io::write_all(STDOUT_FILENO, b" ");
-    io::print_decimal(STDOUT_FILENO, n);
+fn field(rt: &impl Print, n: u64) -> io::Result<()> {
+    rt.print(" ")?;
+    rt.print(n)
 }
 
-fn line() {
-    io::write_all(STDOUT_FILENO, b"\n");
+fn line(rt: &impl Print) -> io::Result<()> {
+    rt.print("\n")
 }
 
-fn names(k: answers::Identity) {
-    field(k.image);
-    field(k.revision as u64);
+fn names(rt: &impl Print, k: answers::Identity) -> io::Result<()> {
+    field(rt, k.image)?;
+    field(rt, k.revision as u64)
 }
 
-fn places(r: answers::Reading) {
-    field(r.base);
-    field(r.c as u64);
-    field(r.z as u64);
-    field(r.n as u64);
-    field(r.E as u64);
+fn places(rt: &impl Print, r: answers::Reading) -> io::Result<()> {
+    field(rt, r.base)?;
+    field(rt, r.c as u64)?;
+    field(rt, r.z as u64)?;
+    field(rt, r.n as u64)?;
+    field(rt, r.E as u64)
 }
 
-fn show_reading(r: answers::Reading) {
-    io::print_decimal(STDOUT_FILENO, r.number as u64);
-    field(r.index as u64);
-    field(r.H as u64);
-    field(r.component as u64);
+fn show_reading(rt: &impl Print, r: answers::Reading) -> io::Result<()> {
+    rt.print(r.number)?;
+    field(rt, r.index as u64)?;
+    field(rt, r.H as u64)?;
+    field(rt, r.component as u64)?;
     let k = r.identity;
-    names(k);
-    places(r);
-    field(k.extended as u64);
-    line();
+    names(rt, k)?;
+    places(rt, r)?;
+    field(rt, k.extended as u64)?;
+    line(rt)
 }
 
-fn show_move(m: answers::Moved) {
-    io::print_decimal(STDOUT_FILENO, m.number as u64);
-    field(m.index as u64);
-    io::write_all(STDOUT_FILENO, b" ");
+fn show_move(rt: &impl Print, m: answers::Moved) -> io::Result<()> {
+    rt.print(m.number)?;
+    field(rt, m.index as u64)?;
+    rt.print(" ")?;
     if m.distance < 0 {
-        io::write_all(STDOUT_FILENO, b"-");
+        rt.print("-")?;
     }
-    io::print_decimal(STDOUT_FILENO, move_answer::magnitude(m.distance));
-    line();
+    rt.print(move_answer::magnitude(m.distance))?;
+    line(rt)
 }
 
-fn show_bytes(bytes: &[u8]) {
-    io::write_all(STDOUT_FILENO, bytes);
-    line();
+fn show_bytes(rt: &impl Print, bytes: &[u8]) -> io::Result<()> {
+    rt.write_all(bytes)?;
+    line(rt)
 }
 
-fn call_release(image: &mut [u8], sheet: &[u8], base: u64, owners: &[u8], owner: u64) {
-    show_move(release::release(image, sheet, base, owners, owner));
-    show_bytes(image);
+fn call_release(
+    rt: &impl Print,
+    image: &mut [u8],
+    sheet: &[u8],
+    base: u64,
+    owners: &[u8],
+    owner: u64,
+) -> io::Result<()> {
+    show_move(rt, release::release(image, sheet, base, owners, owner))?;
+    show_bytes(rt, image)
 }
 
-fn call_setting(image: &[u8], offset: u64, size: u64) {
-    io::print_decimal(
-        STDOUT_FILENO,
-        setting::setting_number(image, offset, size) as u64,
-    );
+fn call_setting(rt: &impl Print, image: &[u8], offset: u64, size: u64) -> io::Result<()> {
+    rt.print(setting::setting_number(image, offset, size))?;
     let part = setting::setting(image, offset, size);
-    field(part.len() as u64);
-    line();
-    show_bytes(part);
+    field(rt, part.len() as u64)?;
+    line(rt)?;
+    show_bytes(rt, part)
 }
 
-fn show_audit(a: answers::Audited) {
-    io::print_decimal(STDOUT_FILENO, a.number as u64);
-    field(a.index as u64);
-    field(a.base);
-    field(a.settings as u64);
-    field(a.strays as u64);
-    field(a.bits as u64);
-    if a.explained {
-        field(1);
-    } else {
-        field(0);
-    }
-    line();
+fn show_audit(rt: &impl Print, a: answers::Audited) -> io::Result<()> {
+    rt.print(a.number)?;
+    field(rt, a.index as u64)?;
+    field(rt, a.base)?;
+    field(rt, a.settings as u64)?;
+    field(rt, a.strays as u64)?;
+    field(rt, a.bits as u64)?;
+    field(rt, u64::from(a.explained))?;
+    line(rt)
 }
 
 fn wide(x: u32) -> u64 {
     x as u64
 }
 
-fn show_places(places: &[u32]) {
-    let mut i = 0;
-    while i < places.len() {
-        field(wide(places[i]));
-        i += 1;
+fn show_places(rt: &impl Print, places: &[u32]) -> io::Result<()> {
+    for place in places {
+        field(rt, wide(*place))?;
     }
-    line();
+    line(rt)
 }
 
 // What the list holds before an audit.
@@ -123,74 +123,108 @@ fn held(i: usize) -> u32 {
 }
 
 fn fill(places: &mut [u32]) {
-    let mut i = 0;
-    while i < places.len() {
-        places[i] = held(i);
-        i += 1;
+    for (i, place) in places.iter_mut().enumerate() {
+        *place = held(i);
     }
 }
 
-fn audit_in(vendor: &[u8], shipped: &[u8], places: &mut [u32]) {
+fn audit_in(rt: &impl Print, vendor: &[u8], shipped: &[u8], places: &mut [u32]) -> io::Result<()> {
     fill(places);
-    show_audit(audit::audit(vendor, shipped, places));
-    show_places(places);
+    show_audit(rt, audit::audit(vendor, shipped, places))?;
+    show_places(rt, places)
 }
 
-fn call_audit(vendor: &[u8], shipped: &[u8], count: usize) {
+fn call_audit(rt: &impl Print, vendor: &[u8], shipped: &[u8], count: usize) -> io::Result<()> {
     let mut list = [0u32; 4096];
     if count <= 4096 {
-        audit_in(vendor, shipped, &mut list[0..count]);
+        audit_in(rt, vendor, shipped, &mut list[0..count])?;
     }
+    Ok(())
 }
 
-fn mend_in(vendor: &[u8], shipped: &mut [u8], places: &mut [u32]) {
+fn mend_in(
+    rt: &impl Print,
+    vendor: &[u8],
+    shipped: &mut [u8],
+    places: &mut [u32],
+) -> io::Result<()> {
     fill(places);
-    show_audit(mend::mend(vendor, shipped, places));
-    show_places(places);
-    show_bytes(shipped);
+    show_audit(rt, mend::mend(vendor, shipped, places))?;
+    show_places(rt, places)?;
+    show_bytes(rt, shipped)
 }
 
-fn call_mend(vendor: &[u8], shipped: &mut [u8], count: usize) {
+fn call_mend(rt: &impl Print, vendor: &[u8], shipped: &mut [u8], count: usize) -> io::Result<()> {
     let mut list = [0u32; 4096];
     if count <= 4096 {
-        mend_in(vendor, shipped, &mut list[0..count]);
+        mend_in(rt, vendor, shipped, &mut list[0..count])?;
     }
+    Ok(())
 }
 
-fn call_mend_bytes(vendor: &[u8], shipped: &mut [u8], places: &mut [u8]) {
-    show_audit(mend::mend_bytes(vendor, shipped, places));
-    show_bytes(places);
-    show_bytes(shipped);
+fn call_mend_bytes(
+    rt: &impl Print,
+    vendor: &[u8],
+    shipped: &mut [u8],
+    places: &mut [u8],
+) -> io::Result<()> {
+    show_audit(rt, mend::mend_bytes(vendor, shipped, places))?;
+    show_bytes(rt, places)?;
+    show_bytes(rt, shipped)
 }
 
 // What the record asks of an image, the other input and an owner list or a list of places.
-fn answer(image: &mut [u8], other: &mut [u8], list: &mut [u8], k: Record) {
+fn answer(
+    rt: &impl Print,
+    image: &mut [u8],
+    other: &mut [u8],
+    list: &mut [u8],
+    k: Record,
+) -> io::Result<()> {
     let call = k.call;
     if call == 1 {
-        show_reading(reading::read(image));
+        show_reading(rt, reading::read(image))
     } else if call == 4 {
-        call_setting(image, k.a as u64, k.b as u64);
+        call_setting(rt, image, k.a as u64, k.b as u64)
     } else if call == 5 {
-        call_audit(image, other, k.a);
+        call_audit(rt, image, other, k.a)
     } else if call == 7 {
-        call_release(image, other, k.a as u64, list, k.b as u64 / 4294967296);
+        call_release(rt, image, other, k.a as u64, list, k.b as u64 / 4294967296)
     } else if call == 8 {
-        call_mend(image, other, k.a);
+        call_mend(rt, image, other, k.a)
     } else if call == 9 {
-        call_mend_bytes(image, other, list);
+        call_mend_bytes(rt, image, other, list)
+    } else {
+        Ok(())
     }
 }
 
+// Reads until the buffer is full or the input ends, and returns how many bytes it put at the buffer's start.
+fn read_full(input: &mut impl Read, buffer: &mut [u8]) -> io::Result<usize>
+    ensures { IfOk result (λ n. n ≤ length buffer.new) }
+{
+    let mut done = 0;
+    while done < buffer.len() {
+        let count = input.read(&mut buffer[done..])?;
+        if count == 0 {
+            break;
+        }
+        done += count;
+    }
+    Ok(done)
+}
+
 // The bytes of a record go into a buffer.
-fn store(buffer: &mut [u8], at: usize, count: usize) {
+fn store(input: &mut impl Read, buffer: &mut [u8], at: usize, count: usize) -> io::Result<()> {
     if buffer.len() < at {
-        return;
+        return Ok(());
     }
     if buffer.len() - at < count {
-        return;
+        return Ok(());
     }
     let end = at + count;
-    io::read_full(STDIN_FILENO, &mut buffer[at..end]);
+    read_full(input, &mut buffer[at..end])?;
+    Ok(())
 }
 
 fn record_of(head: &[u8; 40]) -> Record {
@@ -222,51 +256,74 @@ fn list_length(k: Record) -> usize {
     0
 }
 
-fn take(first: &mut [u8], second: &mut [u8], third: &mut [u8], k: Record) {
-    store(first, k.at, share(k, 0));
-    store(second, k.at, share(k, 1));
-    store(third, k.at, share(k, 2));
+fn take(
+    rt: &impl Print,
+    input: &mut impl Read,
+    first: &mut [u8],
+    second: &mut [u8],
+    third: &mut [u8],
+    k: Record,
+) -> io::Result<()> {
+    store(input, first, k.at, share(k, 0))?;
+    store(input, second, k.at, share(k, 1))?;
+    store(input, third, k.at, share(k, 2))?;
     let list = list_length(k);
     if third.len() < list {
-        return;
+        return Ok(());
     }
     let len = k.len;
     let other = k.other;
     if first.len() < len {
-        return;
+        return Ok(());
     }
     if second.len() < other {
-        return;
+        return Ok(());
     }
     answer(
+        rt,
         &mut first[0..len],
         &mut second[0..other],
         &mut third[0..list],
         k,
-    );
+    )
 }
 
 // One record, or false at the end of them.
-fn step(first: &mut [u8], second: &mut [u8], third: &mut [u8]) -> bool {
+fn step(
+    rt: &impl Print,
+    input: &mut impl Read,
+    first: &mut [u8],
+    second: &mut [u8],
+    third: &mut [u8],
+) -> io::Result<bool> {
     let mut head = [0u8; 40];
-    if io::read_full(STDIN_FILENO, &mut head) < 40 {
-        return false;
+    if read_full(input, &mut head)? < 40 {
+        return Ok(false);
     }
-    take(first, second, third, record_of(&head));
-    true
+    take(rt, input, first, second, third, record_of(&head))?;
+    Ok(true)
 }
 
-// A proved loop has to end: it counts its turns down from a number that no file of records uses up.
-fn run(first: &mut [u8], second: &mut [u8], third: &mut [u8]) {
-    let mut turns = u64::MAX;
-    while turns > 0 && step(first, second, third) {
-        turns -= 1;
+// A proved loop has to end: it takes as many turns as no file of records uses up.
+fn run(
+    rt: &impl Print,
+    input: &mut impl Read,
+    first: &mut [u8],
+    second: &mut [u8],
+    third: &mut [u8],
+) -> io::Result<()> {
+    for _ in 0..u64::MAX {
+        if !step(rt, input, first, second, third)? {
+            break;
+        }
     }
+    Ok(())
 }
 
-fn main() {
+fn main(rt: HostRuntime) -> io::Result<()> {
     let mut first = [0u8; 131072];
     let mut second = [0u8; 131072];
     let mut third = [0u8; 4096];
-    run(&mut first, &mut second, &mut third);
+    let mut input = rt.reader();
+    run(&rt, &mut input, &mut first, &mut second, &mut third)
 }

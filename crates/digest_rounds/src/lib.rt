@@ -6,7 +6,6 @@ ghost use Rattle.digest_rounds.specs.Rounds.{T₁, T₂, turned, K, rounds, plus
 ghost use Rattle.digest_rounds.specs.RoundsLaws.{four_turned};
 
 // The eight working variables, and the eight words of a hash value.
-#[derive(Drop)]
 #[derive(Clone, Copy)]
 pub struct Eight {
     pub a: u32,

@@ -12,7 +12,6 @@ ghost use Rattle.fold.specs.FoldLaws.{room_by};
 use fold_tally::Tally;
 
 // The answer of a fold: number 0, the sheet's length and its entries; or the refusal's number and zeros.
-#[derive(Drop)]
 #[derive(Clone, Copy)]
 pub struct Folded {
     pub number: u32,

@@ -13,7 +13,6 @@ ghost use Rattle.fold_bodies.specs.Bodies.{Copied, Rooms, Laid, LaidSheet, LaidP
 use sheet::Entry;
 
 // Whether all was found, and how many entries were met, of 1,024.
-#[derive(Drop)]
 #[derive(Clone, Copy)]
 pub struct Told {
     pub found: bool,

@@ -13,7 +13,6 @@ ghost use Rattle.fold_runs.specs.Runs.{Out};
 use sheet::Entry;
 
 // Whether a sheet's entries lie in runs, and how many entries were met with them, of 1,024.
-#[derive(Drop)]
 #[derive(Clone, Copy)]
 pub struct Seen {
     pub held: bool,

@@ -16,7 +16,6 @@ use sheet::Entry;
 
 // How many words there are; how many of them, the first ones, are runs in order; up to where these reach; which of them is at hand; and how many
 // entries were met, of 1,024.
-#[derive(Drop)]
 #[derive(Clone, Copy)]
 pub struct Gathered {
     pub n: usize,

@@ -7,7 +7,6 @@ ghost use Rattle.fold_spread.specs.Fold.{refused_fold, Folds};
 use fold_tally::Tally;
 
 // The answer of a fold: number 0, the sheet's length and its entries; or the refusal's number and zeros.
-#[derive(Drop)]
 #[derive(Clone, Copy)]
 pub struct Folded {
     pub number: u32,

@@ -8,7 +8,6 @@ ghost use Rattle.fold_cells.specs.Cells.{Good};
 ghost use Rattle.fold_tally.specs.Tally.{stepped, through, Small, Gapped, Counted, Blank, Skipped};
 
 // Up to some position: how long the run is that goes up to it, how many have ended, and how many positions are set.
-#[derive(Drop)]
 #[derive(Clone, Copy)]
 pub struct Tally {
     pub run: usize,

@@ -8,7 +8,6 @@ ghost use Rattle.handoff_list.specs.Blocks.{Counts};
 ghost use Rattle.handoff_list.specs.Passing.{brief, passing, at_least, at_end};
 
 // What the walk needs of a step: a block's own data isn't read.
-#[derive(Drop)]
 #[derive(Clone, Copy)]
 pub struct Pass {
     pub number: u32,
@@ -115,7 +114,6 @@ pub fn pass_one(buffer: &[u8], at: usize) -> Pass
 
 // How many blocks the list has up to the end block and with it, and where the end block stands; or the refusal of the first block at
 // fault, where that block should stand, and how many blocks stand before it.
-#[derive(Drop)]
 #[derive(Clone, Copy)]
 pub struct Counted {
     pub number: u32,

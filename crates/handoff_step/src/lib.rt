@@ -7,14 +7,12 @@ ghost use Rattle.facts.specs.Rules.{run};
 ghost use Rattle.handoff_step.specs.Step.{refusal, shown, head_fits, resource_at, from_resource, from_guid, from_end, from_later, from_first, from_head, Steps};
 
 // Where the next block should stand, counted from the buffer's start. Anyone may make one up.
-#[derive(Drop)]
 #[derive(Clone, Copy)]
 pub struct Cursor {
     pub at: usize,
 }
 
 // What a block is, with the data of its kind. Nothing is the kind of a refused step, which shows no block.
-#[derive(Drop)]
 #[derive(Clone, Copy)]
 pub enum Kind {
     Nothing,
@@ -35,7 +33,6 @@ pub enum Kind {
 }
 
 // A block as it is shown: its place from the buffer's start, its type as a number, and its length with the header.
-#[derive(Drop)]
 #[derive(Clone, Copy)]
 pub struct Block {
     pub place: usize,
@@ -45,7 +42,6 @@ pub struct Block {
 }
 
 // The answer of a step: number 0, the next cursor and the block; or the refusal's number, the same cursor and no block.
-#[derive(Drop)]
 #[derive(Clone, Copy)]
 pub struct Stepped {
     pub number: u32,

@@ -8,7 +8,6 @@ ghost use Rattle.hex_text.specs.Sizes.{part_length};
 ghost use Rattle.hex_export.specs.Export.{refused_export, Exports, Roomy};
 
 // The answer of export: a refusal, or number 0 and the length of the text.
-#[derive(Drop)]
 #[derive(Clone, Copy)]
 pub struct Exported {
     pub number: u32,

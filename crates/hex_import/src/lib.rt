@@ -6,7 +6,6 @@ ghost use Rattle.hex_import.specs.Import.{refused_import, Imports};
 ghost use Rattle.hex_import.specs.Found.{base_of, LengthOf};
 
 // The answer of import: a refusal, or number 0, the base and how many bytes there are.
-#[derive(Drop)]
 #[derive(Clone, Copy)]
 pub struct Imported {
     pub number: u32,

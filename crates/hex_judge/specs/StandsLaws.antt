@@ -1,7 +1,7 @@
 -- Characters one after the other; digits read back.
 -- Assumes nothing.
 use Rattle.std.specs.Prelude.{ℕ, zero, suc, ◌+◌, ◌*◌, ◌/◌, ◌%◌, ◌≤◌, ◌<◌, List, [], ◌∷◌, ◌++◌, ◌≡◌, refl, length, get_or, drop}
-use Rattle.std.proofs.Common.{append_assoc, append-nil, sym, ap, ◌∙◌, arith, add-zero, length-append, drop-cons}
+use Rattle.std.proofs.Common.{append_assoc, append-nil, sym, ap, subst, ◌∙◌, arith, add-zero, length-append, drop-cons}
 use Rattle.std.proofs.Math.Decide.{dec_le}
 use Rattle.std.proofs.Math.Seq.{drop-length, get_or-append_seam}
 use Rattle.facts.specs.Fact.{Holds, ◌≤?◌}
@@ -35,8 +35,11 @@ pub stands_here : (a s r : List ℕ) → Holds (stands (a ++ (s ++ r)) (length a
 stands_here a [] r = omega arith
 stands_here a (c ∷ s) r =
     let e : a ++ (c ∷ (s ++ r)) ≡ (a ++ (c ∷ [])) ++ (s ++ r) = sym (append_assoc a (c ∷ []) (s ++ r)) in
-    let n : length (a ++ (c ∷ [])) ≡ length a + 1 = length-append a (c ∷ []) in
-    (get_or-append_seam a c (s ++ r) 0, rw (e, ← n) (stands_here (a ++ (c ∷ [])) s r))
+    let n : length (a ++ (c ∷ [])) ≡ length a + 1 = length-append a (c ∷ []) in (
+      get_or-append_seam a c (s ++ r) 0,
+      subst (λ (text : List ℕ). Holds (stands text (length a + 1) s)) (sym e)
+          (subst (λ (at : ℕ). Holds (stands ((a ++ (c ∷ [])) ++ (s ++ r)) at s)) n (stands_here (a ++ (c ∷ [])) s r)),
+    )
 
 stands_rest : (text : List ℕ) (at : ℕ) (s : List ℕ) → Holds (stands text at s) → length text ≡ at + length s → drop at text ≡ s
 stands_rest text at [] h long = let e : at ≡ length text = omega arith in rw e (drop-length text)

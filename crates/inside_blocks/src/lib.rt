@@ -17,7 +17,6 @@ use items::Item;
 
 // Where the walk stands in a module: headers to come, bytes of the directory that are used, the next entry, entries left in its block, and
 // that block's page.
-#[derive(Drop)]
 #[derive(Clone, Copy)]
 pub struct Cursor {
     pub heads: usize,
@@ -27,7 +26,6 @@ pub struct Cursor {
     pub page: usize,
 }
 
-#[derive(Drop)]
 #[derive(Clone, Copy)]
 pub struct Turn {
     pub item: Item,

@@ -17,7 +17,6 @@ pub const SECTION: u32 = 2;
 pub const BROKEN: u32 = 5;
 
 // What the walk meets: 1 a file's header or the free end, 2 a section, 5 none where one should be; 0 the end.
-#[derive(Drop)]
 #[derive(Clone, Copy)]
 pub struct Part {
     pub kind: u32,
@@ -27,7 +26,6 @@ pub struct Part {
 }
 
 // Where the walk stands: the next file, the end of the file at hand, and its next section.
-#[derive(Drop)]
 #[derive(Clone, Copy)]
 pub struct Place {
     pub file: usize,
@@ -35,7 +33,6 @@ pub struct Place {
     pub at: usize,
 }
 
-#[derive(Drop)]
 #[derive(Clone, Copy)]
 pub struct Turn {
     pub part: Part,

@@ -24,7 +24,6 @@ use items::Item;
 
 // Whether rule 25, 26 (but for apartness) and 27 is passed; the highest end of a word; and the frontier, which tells of apartness where all
 // comes in order.
-#[derive(Drop)]
 #[derive(Clone, Copy)]
 pub struct Judged {
     pub whole: bool,

@@ -17,7 +17,6 @@ use inside_rows::Module;
 use items::Item;
 
 // How many modules and words there are, and how many entries they have together.
-#[derive(Drop)]
 #[derive(Clone, Copy)]
 pub struct Counts {
     pub modules: usize,
@@ -26,7 +25,6 @@ pub struct Counts {
 }
 
 // Where the next word is listed, and the code of one of 4 bytes: 3 for the image base, then 5.
-#[derive(Drop)]
 #[derive(Clone, Copy)]
 pub struct Next {
     pub at: usize,

@@ -68,7 +68,7 @@ module _ (a b : List ℕ) (lo hi : ℕ) where
         same : Holds (kind_fits a opt soh fixed) → Holds (rows_fit a (made a))
             → Alike a b (opt + at + w) (opt + soh + 40 * rows - (opt + at + w))
             → made a ≡ cond (test (kind_fits b opt soh fixed)) (cond (test (rows_fit b (made b))) (made b) bad_module) bad_module
-        same fits rows_fit after =
+        same fits held after =
             let count : le 4 a (opt + (fixed - 4)) ≡ le 4 b (opt + (fixed - 4)) =
             le_in after 4 (opt + (fixed - 4)) (omega arith) (omega (arith, fits.0)) in
             let fits' : Holds (kind_fits b opt soh fixed) = rw count at fits in
@@ -77,8 +77,8 @@ module _ (a b : List ℕ) (lo hi : ℕ) where
             let size = counted_cong (le 4 a (opt + (fixed - 4))) (opt + fixed + 44)
             (λ l. le_in after 4 (opt + fixed + 44) (omega arith) (omega (arith, fits.1))) in
             let table = alike_in after (opt + soh) (40 * rows) (omega (arith, fits.0)) (omega (arith, fits.0)) in
-            let rows-fit' = rows_fit_cong a b (made a) table rows_fit in
-            rw (passes (kind_fits b opt soh fixed) fits', passes (rows_fit b (made b)) rows-fit', dir, size, count)
+            let held' = rows_fit_cong a b (made a) table held in
+            rw (passes (kind_fits b opt soh fixed) fits', passes (rows_fit b (made b)) held', dir, size, count)
 
   optional_shape : (opt soh rows : ℕ) → let m = from_optional a lo hi opt soh rows in
       (m.kind ≡ bad_kind → ⊥) → (m.kind ≡ pe_kind) × (m.lo ≡ lo) × (m.pe ≡ opt - 24) × (opt + 24 ≤ m.base)
@@ -166,7 +166,7 @@ module _ (a b : List ℕ) (lo hi : ℕ) where
           → Alike a b (lo + 16 + 8) (lo + 40 + 40 * le 1 a (lo + 4) - (lo + 16 + 8))
           → te_module a lo hi
           ≡ cond (test (te_fits b lo hi)) (cond (test (rows_fit b (te_module b lo hi))) (te_module b lo hi) bad_module) bad_module
-      same fits rows_fit before after =
+      same fits held before after =
           let mark : le 2 a lo ≡ le 2 b lo = le_in before 2 lo (omega arith) (omega arith) in
           let rows : le 1 a (lo + 4) ≡ le 1 b (lo + 4) = le_in before 1 (lo + 4) (omega arith) (omega arith) in
           let cut : le 2 a (lo + 6) ≡ le 2 b (lo + 6) = le_in before 2 (lo + 6) (omega arith) (omega arith) in
@@ -175,9 +175,9 @@ module _ (a b : List ℕ) (lo hi : ℕ) where
           let fits' : Holds (te_fits b lo hi) = rw (mark, rows) at fits in
           let is : te_module a lo hi ≡ te_module b lo hi = rw (rows, cut, dir, size) in
           let table = alike_in after (lo + 40) (40 * le 1 a (lo + 4)) (omega arith) (omega arith) in
-          let rows-fit' : Holds (rows_fit b (te_module b lo hi)) =
-          subst (λ (m : Module). Holds (rows_fit b m)) is (rows_fit_cong a b (te_module a lo hi) table rows_fit) in
-          rw (passes (te_fits b lo hi) fits', passes (rows_fit b (te_module b lo hi)) rows-fit') is
+          let held' : Holds (rows_fit b (te_module b lo hi)) =
+          subst (λ (m : Module). Holds (rows_fit b m)) is (rows_fit_cong a b (te_module a lo hi) table held) in
+          rw (passes (te_fits b lo hi) fits', passes (rows_fit b (te_module b lo hi)) held') is
 
 -- images that agree on the headers of a module that isn't broken have the same one there
 pub module_cong : (a b : List ℕ) (t lo hi : ℕ) → let m = module_of a t lo hi in

@@ -11,7 +11,6 @@ use inside_rows::{Module, Row};
 
 // A block's page, and where it would lie in the image: what starts at `floor` or after and ends in `room` is found by adding its offset. No room
 // where that isn't sure.
-#[derive(Drop)]
 #[derive(Clone, Copy)]
 pub struct Page {
     pub page: usize,

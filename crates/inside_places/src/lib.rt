@@ -9,7 +9,6 @@ ghost use Rattle.inside_places.specs.Places.{covers, row_of, found_in, te_holds,
 use inside_rows::{Module, Row};
 
 // The place of an address, and where the data ends in which it lies. Both are the module's end where it lies in none.
-#[derive(Drop)]
 #[derive(Clone, Copy)]
 pub struct Span {
     pub at: usize,

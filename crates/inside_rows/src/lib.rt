@@ -16,7 +16,6 @@ pub const BAD: u32 = 25;
 // What the walk needs of a module: kind 0x10 (PE32), 0x12 (TE), 0 (none) or 25 (headers that don't fit, all else 0); its bytes lo..hi-1;
 // where its second header and its image base stand, and the base's width; place and count of its section headers; the bytes that were
 // stripped (40 for PE32); the relocation directory's address and size.
-#[derive(Drop)]
 #[derive(Clone, Copy)]
 pub struct Module {
     pub kind: u32,
@@ -33,7 +32,6 @@ pub struct Module {
 }
 
 // A section header: address, size of its data, place of its data.
-#[derive(Drop)]
 #[derive(Clone, Copy)]
 pub struct Row {
     pub va: usize,

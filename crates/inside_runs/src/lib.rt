@@ -10,7 +10,6 @@ ghost use Rattle.inside_runs.specs.Runs.{width_of, entry, AnyIn, Lain};
 use inside_pages::Page;
 
 // How many entries are passed, and where the last of their words ends.
-#[derive(Drop)]
 #[derive(Clone, Copy)]
 pub struct Passed {
     pub count: usize,

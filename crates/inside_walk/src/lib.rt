@@ -14,7 +14,6 @@ use inside_rows::Module;
 use items::Item;
 
 // Where the walk stands: among the files, and in a module.
-#[derive(Drop)]
 #[derive(Clone, Copy)]
 pub struct Spot {
     pub place: Place,
@@ -22,7 +21,6 @@ pub struct Spot {
     pub c: Cursor,
 }
 
-#[derive(Drop)]
 #[derive(Clone, Copy)]
 pub struct Move {
     pub item: Item,

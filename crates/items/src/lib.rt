@@ -18,7 +18,6 @@ pub const BROKEN: u32 = 5;
 pub const LOST: u32 = 6;
 
 // The number of a kind; then the place and the count of its bytes.
-#[derive(Drop)]
 #[derive(Clone, Copy)]
 pub struct Item {
     pub kind: u32,

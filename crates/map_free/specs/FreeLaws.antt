@@ -5,7 +5,7 @@ use Rattle.std.specs.Prelude.{Bool, true, false, cond, ◌⊎◌, ◌≡◌, len
 use mathlib.Core.List.{List, [], ◌∷◌}
 use Rattle.std.proofs.Math.Logic.{inl, inr}
 use Rattle.std.proofs.Math.Path.{refl}
-use Rattle.std.proofs.Common.{sym, ◌∙◌}
+use Rattle.std.proofs.Common.{sym, subst, ◌∙◌}
 use native.Mathlib.Omega.{arith}
 use Rattle.std.proofs.Math.Decide.{dec_lt}
 use Rattle.facts.specs.Fact.{Fact, ◌≤?◌, ◌≡?◌, deny, ◌and◌, ◌or◌, test, Holds, Says}
@@ -60,8 +60,9 @@ module _ (edge : Range → ℕ) (p : ℕ → Fact) where
           elim (dec_lt (lowest edge p rs) (edge r)) [
             | yes g ↦ let e : min (edge r) (lowest edge p rs) ≡ lowest edge p rs = omega arith in
                 let f = rest (omega arith) in
-                rw e (inr f.0, f.1)
-            | no g ↦ let e : min (edge r) (lowest edge p rs) ≡ edge r = omega arith in rw e (inl refl, h)
+                subst (λ (v : ℕ). Among edge v (r ∷ rs) × Holds (p v)) (sym e) (inr f.0, f.1)
+            | no g ↦ let e : min (edge r) (lowest edge p rs) ≡ edge r = omega arith in
+                subst (λ (v : ℕ). Among edge v (r ∷ rs) × Holds (p v)) (sym e) (inl refl, h)
           ]
 
 -- ---- how many edges are at a place or above it

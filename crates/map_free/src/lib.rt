@@ -7,7 +7,6 @@ ghost use Rattle.map_ranges.specs.Table.{row_at, ranges_in};
 ghost use Rattle.map_free.specs.Look.{reach_of, Table, Swept, TakesRow, Advances, Limits, Covered, Stretches, Extending, Skips, Extends, Nexts};
 
 // How many rows are passed; whether there is memory among them, and its highest byte; the same of reserved ranges.
-#[derive(Drop)]
 #[derive(Clone, Copy)]
 pub struct Reach {
     pub i: usize,
@@ -18,7 +17,6 @@ pub struct Reach {
 }
 
 // Whether a byte is free, and up to which byte all are as it is.
-#[derive(Drop)]
 #[derive(Clone, Copy)]
 pub struct Stretch {
     pub free: bool,
@@ -26,7 +24,6 @@ pub struct Stretch {
 }
 
 // A run of free bytes, if there is one, and how far the sweep has come.
-#[derive(Drop)]
 #[derive(Clone, Copy)]
 pub struct Found {
     pub found: bool,
@@ -36,7 +33,6 @@ pub struct Found {
 }
 
 // Where a run ends.
-#[derive(Drop)]
 #[derive(Clone, Copy)]
 pub struct Ended {
     pub last: u64,

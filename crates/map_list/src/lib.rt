@@ -9,7 +9,6 @@ ghost use Rattle.map_list.specs.Map.{refused_map, Maps};
 ghost use Rattle.map_list.specs.MapLaws.{Written};
 
 // Number 0 and how many runs of free bytes there are, or a refusal's number and 0.
-#[derive(Drop)]
 #[derive(Clone, Copy)]
 pub struct Mapped {
     pub number: u32,

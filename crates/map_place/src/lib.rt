@@ -9,7 +9,6 @@ ghost use Rattle.map_place.specs.Place.{lowest_base, refused_place, Places};
 ghost use Rattle.map_place.specs.PlaceLaws.{base_in};
 
 // Number 0 and the base, or a refusal's number and 0.
-#[derive(Drop)]
 #[derive(Clone, Copy)]
 pub struct Placed {
     pub number: u32,

@@ -10,7 +10,6 @@ ghost use Rattle.map_ranges.specs.RangesLaws.{is_range, range_here, Standing};
 ghost use Rattle.map_ranges.specs.Gathering.{Gathers, Takes, refused_ranges, Finishes};
 
 // The number of 30 to 35, or 0 and how many ranges there are.
-#[derive(Drop)]
 #[derive(Clone, Copy)]
 pub struct Gathered {
     pub number: u32,
@@ -18,7 +17,6 @@ pub struct Gathered {
 }
 
 // 34 once a range ends above 2^64, else 0; and how many ranges are counted.
-#[derive(Drop)]
 #[derive(Clone, Copy)]
 pub struct Taken {
     pub number: u32,

@@ -6,7 +6,6 @@ ghost use Rattle.facts.specs.Fact.{Tells};
 ghost use Rattle.owners.specs.Owners.{range_at, known_owner, range_fits, list_fits, owners_fit};
 
 // A range of the list.
-#[derive(Drop)]
 #[derive(Clone, Copy)]
 pub struct Range {
     pub offset: usize,
@@ -99,7 +98,6 @@ pub fn owners_fit(owners: &[u8], owner: usize, z: usize) -> bool
 }
 
 // Whether the bytes of a run are all one owner's, and the range where the walk stands.
-#[derive(Drop)]
 #[derive(Clone, Copy)]
 pub struct Walked {
     pub all: bool,

@@ -10,8 +10,7 @@ const SHEET_ANSWER: usize = 40;
 const CONTENTS_ANSWER: usize = 40;
 
 // Reads an image.
-#[unsafe(no_mangle)]
-pub extern "C" fn pajurenda_read(image: &[u8], answer: &mut [u8]) -> u32
+pub fn pajurenda_read(image: &[u8], answer: &mut [u8]) -> u32
     ensures { ReadCall image.now answer.old result answer.new }
 {
     if answer.len() < 96 {
@@ -23,8 +22,7 @@ pub extern "C" fn pajurenda_read(image: &[u8], answer: &mut [u8]) -> u32
 }
 
 // Releases an image in place, by one owner: a sheet's bytes set, then moved.
-#[unsafe(no_mangle)]
-pub extern "C" fn pajurenda_release(
+pub fn pajurenda_release(
     image: &mut [u8],
     sheet: &[u8],
     base: u64,
@@ -43,8 +41,7 @@ pub extern "C" fn pajurenda_release(
 }
 
 // Reads a release sheet by itself.
-#[unsafe(no_mangle)]
-pub extern "C" fn pajurenda_sheet(sheet: &[u8], answer: &mut [u8]) -> u32
+pub fn pajurenda_sheet(sheet: &[u8], answer: &mut [u8]) -> u32
     ensures { SheetCall sheet.now answer.old result answer.new }
 {
     if answer.len() < SHEET_ANSWER {
@@ -56,8 +53,7 @@ pub extern "C" fn pajurenda_sheet(sheet: &[u8], answer: &mut [u8]) -> u32
 }
 
 // Finds one setting.
-#[unsafe(no_mangle)]
-pub extern "C" fn pajurenda_setting(image: &[u8], offset: u64, size: u64, answer: &mut [u8]) -> u32
+pub fn pajurenda_setting(image: &[u8], offset: u64, size: u64, answer: &mut [u8]) -> u32
     ensures { SettingCall image.now offset size answer.old result answer.new }
 {
     if answer.len() < 24 {
@@ -69,13 +65,7 @@ pub extern "C" fn pajurenda_setting(image: &[u8], offset: u64, size: u64, answer
 }
 
 // Audits a shipped file against the vendor's image.
-#[unsafe(no_mangle)]
-pub extern "C" fn pajurenda_audit(
-    vendor: &[u8],
-    shipped: &[u8],
-    places: &mut [u8],
-    answer: &mut [u8],
-) -> u32
+pub fn pajurenda_audit(vendor: &[u8], shipped: &[u8], places: &mut [u8], answer: &mut [u8]) -> u32
     ensures { AuditCall vendor.now shipped.now places.old answer.old result places.new answer.new }
 {
     if answer.len() < 56 {
@@ -87,8 +77,7 @@ pub extern "C" fn pajurenda_audit(
 }
 
 // Lists what an image holds.
-#[unsafe(no_mangle)]
-pub extern "C" fn pajurenda_contents(image: &[u8], places: &mut [u8], answer: &mut [u8]) -> u32
+pub fn pajurenda_contents(image: &[u8], places: &mut [u8], answer: &mut [u8]) -> u32
     ensures { ContentsCall image.now places.old answer.old result places.new answer.new }
 {
     if answer.len() < CONTENTS_ANSWER {
@@ -100,8 +89,7 @@ pub extern "C" fn pajurenda_contents(image: &[u8], places: &mut [u8], answer: &m
 }
 
 // One step over hand-off blocks.
-#[unsafe(no_mangle)]
-pub extern "C" fn pajurenda_handoff(buffer: &[u8], cursor: u64, answer: &mut [u8]) -> u32
+pub fn pajurenda_handoff(buffer: &[u8], cursor: u64, answer: &mut [u8]) -> u32
     ensures { HandoffCall buffer.now cursor answer.old result answer.new }
 {
     if answer.len() < 80 {
@@ -116,8 +104,7 @@ pub extern "C" fn pajurenda_handoff(buffer: &[u8], cursor: u64, answer: &mut [u8
 }
 
 // The whole list of hand-off blocks, counted.
-#[unsafe(no_mangle)]
-pub extern "C" fn pajurenda_handoffs(buffer: &[u8], answer: &mut [u8]) -> u32
+pub fn pajurenda_handoffs(buffer: &[u8], answer: &mut [u8]) -> u32
     ensures { HandoffsCall buffer.now answer.old result answer.new }
 {
     if answer.len() < 24 {
@@ -132,8 +119,7 @@ pub extern "C" fn pajurenda_handoffs(buffer: &[u8], answer: &mut [u8]) -> u32
 ghost use Rattle.pajurenda.specs.Promises.{StationCall, StationResetCall};
 
 // One call.
-#[unsafe(no_mangle)]
-pub extern "C" fn pajurenda_station(state: &mut [u8], call: u64, notification: u64) -> u32
+pub fn pajurenda_station(state: &mut [u8], call: u64, notification: u64) -> u32
     ensures { StationCall state.old call notification result state.new }
 {
     if state.len() < 8 {
@@ -143,8 +129,7 @@ pub extern "C" fn pajurenda_station(state: &mut [u8], call: u64, notification: u
 }
 
 // A reset.
-#[unsafe(no_mangle)]
-pub extern "C" fn pajurenda_station_reset(state: &mut [u8]) -> u32
+pub fn pajurenda_station_reset(state: &mut [u8]) -> u32
     ensures { StationResetCall state.old result state.new }
 {
     if state.len() < 8 {

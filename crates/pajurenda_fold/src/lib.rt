@@ -16,8 +16,7 @@ fn write_folded(answer: &mut [u8], r: Folded)
 }
 
 // The sheets of a pile as one sheet.
-#[unsafe(no_mangle)]
-pub extern "C" fn pajurenda_fold(pile: &[u8], output: &mut [u8], answer: &mut [u8]) -> u32
+pub fn pajurenda_fold(pile: &[u8], output: &mut [u8], answer: &mut [u8]) -> u32
     ensures { FoldCall pile.now output.old answer.old result output.new answer.new }
 {
     if answer.len() < 24 {

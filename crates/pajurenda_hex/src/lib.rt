@@ -25,13 +25,7 @@ fn write_imported(answer: &mut [u8], r: Imported)
 }
 
 // The text of bytes at a base.
-#[unsafe(no_mangle)]
-pub extern "C" fn pajurenda_hex_export(
-    bytes: &[u8],
-    base: u64,
-    text: &mut [u8],
-    answer: &mut [u8],
-) -> u32
+pub fn pajurenda_hex_export(bytes: &[u8], base: u64, text: &mut [u8], answer: &mut [u8]) -> u32
     ensures { ExportCall bytes.now base text.old answer.old result text.new answer.new }
 {
     if answer.len() < 16 {
@@ -43,8 +37,7 @@ pub extern "C" fn pajurenda_hex_export(
 }
 
 // The bytes of a text, and their base.
-#[unsafe(no_mangle)]
-pub extern "C" fn pajurenda_hex_import(text: &[u8], bytes: &mut [u8], answer: &mut [u8]) -> u32
+pub fn pajurenda_hex_import(text: &[u8], bytes: &mut [u8], answer: &mut [u8]) -> u32
     ensures { ImportCall text.now bytes.old answer.old result bytes.new answer.new }
 {
     if answer.len() < 24 {

@@ -25,8 +25,7 @@ fn write_placed(answer: &mut [u8], r: Placed)
 }
 
 // The runs of free bytes, each by its first and its last byte.
-#[unsafe(no_mangle)]
-pub extern "C" fn pajurenda_map(dump: &[u8], out: &mut [u8], answer: &mut [u8]) -> u32
+pub fn pajurenda_map(dump: &[u8], out: &mut [u8], answer: &mut [u8]) -> u32
     ensures { MapCall dump.now out.old answer.old result out.new answer.new }
 {
     if answer.len() < 16 {
@@ -38,8 +37,7 @@ pub extern "C" fn pajurenda_map(dump: &[u8], out: &mut [u8], answer: &mut [u8]) 
 }
 
 // The lowest base for an image of so many bytes.
-#[unsafe(no_mangle)]
-pub extern "C" fn pajurenda_lowest_base(dump: &[u8], size: u64, answer: &mut [u8]) -> u32
+pub fn pajurenda_lowest_base(dump: &[u8], size: u64, answer: &mut [u8]) -> u32
     ensures { PlaceCall dump.now size answer.old result answer.new }
 {
     if answer.len() < 16 {

@@ -4,8 +4,7 @@
 ghost use Rattle.pajurenda_mend.specs.Promises.{MendCall};
 
 // Audits a shipped file against the vendor's image and puts its stray bytes back.
-#[unsafe(no_mangle)]
-pub extern "C" fn pajurenda_mend(
+pub fn pajurenda_mend(
     vendor: &[u8],
     shipped: &mut [u8],
     places: &mut [u8],

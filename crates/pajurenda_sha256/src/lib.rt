@@ -3,8 +3,7 @@
 
 ghost use Rattle.digest.specs.Digest.{Digests};
 
-#[unsafe(no_mangle)]
-pub extern "C" fn pajurenda_sha256(bytes: &[u8], answer: &mut [u8]) -> u32
+pub fn pajurenda_sha256(bytes: &[u8], answer: &mut [u8]) -> u32
     ensures { Digests bytes.now answer.old result answer.new }
 {
     digest::sha256(bytes, answer)

@@ -4,8 +4,7 @@
 ghost use Rattle.pajurenda_version.specs.Version.{VersionCall};
 
 // The three numbers of the version in one word.
-#[unsafe(no_mangle)]
-pub extern "C" fn pajurenda_version() -> u32
+pub fn pajurenda_version() -> u32
     ensures { VersionCall result }
 {
     3840

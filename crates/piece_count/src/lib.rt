@@ -34,7 +34,6 @@ fn byte_flips(x: u8, y: u8) -> u32
 }
 
 // What is counted of all differences.
-#[derive(Drop)]
 #[derive(Clone, Copy)]
 pub struct Counts {
     pub settings: usize,

@@ -1,34 +1,56 @@
 // The audit's program: reads two files, vendor.bin and shipped.bin in the folder that it is run in, and writes what `text_output::report` makes of them.
 #![tactic(auto)]
 
-ghost use Rattle.std.specs.Prelude.{◌≤◌, length};
+ghost use Rattle.std.specs.Prelude.{◌≤◌, IfOk, length};
 
-use libc::STDOUT_FILENO;
+use std::io::Read;
+use std::rt::Files;
+use std::{fs, io};
 
-// As much of a file as the buffer holds; a file that can't be opened counts as empty.
-fn load(path: &[u8], buffer: &mut [u8]) -> usize
+// Reads until the buffer is full or the input ends, and returns how many bytes it put at the buffer's start.
+fn read_full(input: &mut impl Read, buffer: &mut [u8]) -> io::Result<usize>
+    ensures { IfOk result (λ n. n ≤ length buffer.new) }
+{
+    let mut done = 0;
+    while done < buffer.len() {
+        let count = input.read(&mut buffer[done..])?;
+        if count == 0 {
+            break;
+        }
+        done += count;
+    }
+    Ok(done)
+}
+
+// As much of a file as the buffer holds; a file that can't be opened or read, or whose path is not text, counts as empty.
+fn load(rt: &impl Files, path: &[u8], buffer: &mut [u8]) -> usize
     ensures { result ≤ length buffer.new }
 {
-    let fd = os::open_read(path);
-    if fd < 0 {
-        return 0;
+    let name = match str::from_utf8(path) {
+        Ok(name) => name,
+        Err(_) => return 0,
+    };
+    let mut file = match fs::open(rt, name) {
+        Ok(file) => file,
+        Err(_) => return 0,
+    };
+    match read_full(&mut file, buffer) {
+        Ok(count) => count,
+        Err(_) => 0,
     }
-    let n = io::read_full(fd, buffer);
-    libc::close(fd);
-    n
 }
 
 // What is printed of the files at two paths. One byte more than is taken is read, so that a longer file is seen.
-pub fn print(vendor: &[u8], shipped: &[u8]) {
+pub fn print(rt: &(impl Files + Print), vendor: &[u8], shipped: &[u8]) -> io::Result<()> {
     let mut first = [0u8; 28673];
     let mut second = [0u8; 28673];
     let mut out = [0u8; 4096];
-    let n = load(vendor, &mut first);
-    let m = load(shipped, &mut second);
+    let n = load(rt, vendor, &mut first);
+    let m = load(rt, shipped, &mut second);
     let r = text_output::report(&first[0..n], &second[0..m], &mut out);
-    io::write_all(STDOUT_FILENO, &out[0..r]);
+    rt.write_all(&out[0..r])
 }
 
-pub fn run() {
-    print(b"vendor.bin", b"shipped.bin");
+pub fn run(rt: &(impl Files + Print)) -> io::Result<()> {
+    print(rt, b"vendor.bin", b"shipped.bin")
 }

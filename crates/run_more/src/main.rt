@@ -6,9 +6,10 @@
 //   8  256 differences                          9  257
 #![tactic(auto)]
 
-use libc::STDOUT_FILENO;
+use std::io;
+use std::rt::Files;
 
-fn run(folder: u8) {
+fn run(rt: &(impl Files + Print), folder: u8) -> io::Result<()> {
     let title = [folder, b'\n'];
     let vendor = [
         folder, b'/', b'v', b'e', b'n', b'd', b'o', b'r', b'.', b'b', b'i', b'n',
@@ -16,14 +17,13 @@ fn run(folder: u8) {
     let shipped = [
         folder, b'/', b's', b'h', b'i', b'p', b'p', b'e', b'd', b'.', b'b', b'i', b'n',
     ];
-    io::write_all(STDOUT_FILENO, &title);
-    report::print(&vendor, &shipped);
+    rt.write_all(&title)?;
+    report::print(rt, &vendor, &shipped)
 }
 
-fn main() {
-    let mut folder = b'0';
-    while folder <= b'9' {
-        run(folder);
-        folder += 1;
+fn main(rt: HostRuntime) -> io::Result<()> {
+    for folder in b'0'..=b'9' {
+        run(&rt, folder)?;
     }
+    Ok(())
 }

@@ -1,6 +1,8 @@
 // A run of the audit program; what it is run on stands in data/.
 #![tactic(auto)]
 
-fn main() {
-    report::run();
+use std::io;
+
+fn main(rt: HostRuntime) -> io::Result<()> {
+    report::run(&rt)
 }

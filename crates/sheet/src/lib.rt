@@ -9,7 +9,6 @@ ghost use Rattle.sheet.specs.ReadSheet.{ReadsSheet};
 use answers::Identity;
 
 // An entry of a sheet.
-#[derive(Drop)]
 #[derive(Clone, Copy)]
 pub struct Entry {
     pub offset: usize,
@@ -171,7 +170,6 @@ pub fn fields_fit(sheet: &[u8], z: usize) -> bool
 }
 
 // A sheet read by itself: number 0, its entries and the identity that it names; or 15 and zeros.
-#[derive(Drop)]
 #[derive(Clone, Copy)]
 pub struct SheetReading {
     pub number: u32,

@@ -5,7 +5,6 @@
 ghost use Rattle.station.specs.Station.{Calls, Resets, CallsFrom, ResetsFrom};
 
 // The call-order state. Anyone may make one up: a number that is no state of ours has nothing in order.
-#[derive(Drop)]
 #[derive(Clone, Copy)]
 pub struct Station {
     pub state: u32,

@@ -37,7 +37,6 @@ const NOTIFIED_F0: u32 = 7;
 pub const NONE: u64 = 0;
 
 // The number, 0 where the call is in order, and the state afterwards.
-#[derive(Drop)]
 #[derive(Clone, Copy)]
 pub struct Answer {
     pub number: u32,

@@ -17,7 +17,6 @@ pub fn round_4(n: usize) -> usize
 }
 
 // Where an entry points: a place with number 0, or the number of its refusal with place 0.
-#[derive(Drop)]
 #[derive(Clone, Copy)]
 pub struct Place {
     pub number: u32,

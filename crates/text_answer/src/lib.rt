@@ -4,7 +4,7 @@
 ghost use Rattle.std.specs.Prelude.{◌+◌, ◌*◌, ◌≤◌, ◌<◌, length, take};
 ghost use Rattle.text_lines.specs.Lines.{Wrote};
 ghost use Rattle.text_answer.specs.Told.{heading, place_line, place_lines, refusal, told};
-ghost use Rattle.text_answer.specs.Told.{verdict as Told·verdict};
+ghost use Rattle.text_answer.specs.Told.{verdict};
 
 use answers::Audited;
 
@@ -49,7 +49,7 @@ fn put_places(out: &mut [u8], at: usize, places: &[u32], count: usize) -> usize
 
 fn put_verdict(out: &mut [u8], at: usize, explained: bool) -> usize
     requires { at + 20 ≤ length out.old }
-    ensures wrote { Wrote out.old out.new at (Told·verdict explained) result }
+    ensures wrote { Wrote out.old out.new at (verdict explained) result }
     ensures upper_bound { result ≤ at + 20 }
 {
     if explained {

@@ -2,8 +2,7 @@
 #![tactic(auto)]
 
 ghost use Rattle.std.specs.Prelude.{◌≡◌, ◌+◌, ◌≤◌, ◌<◌, [], ◌∷◌, length};
-ghost use Rattle.text_lines.specs.Text.{decimal, hex_digits};
-ghost use Rattle.text_lines.specs.Text.{hex_digit as Text·hexDigit};
+ghost use Rattle.text_lines.specs.Text.{decimal, hex_digit, hex_digits};
 ghost use Rattle.text_lines.specs.Lines.{line, hex_line, Wrote};
 
 // A text as it is.
@@ -41,7 +40,7 @@ fn put_decimal(out: &mut [u8], at: usize, n: u64) -> usize
 
 fn hex_digit(d: u64) -> u8
     requires { d < 16 }
-    ensures { result ≡ Text·hexDigit d }
+    ensures { result ≡ hex_digit d }
 {
     if d < 10 {
         return 48 + d as u8;

@@ -1,0 +1,57 @@
+use mathlib.Core.List.{◌++◌}
+use Prim.Native.Nat.{◌-◌}
+use mathlib.Core.Path.{◌≡◌}
+use native.Mathlib.Omega.{arith}
+use Rattle.inside_blocks.specs.Blocks.{entries_from, blocks_from}
+use Rattle.inside_blocks.specs.BlocksLaws.{blocks_end}
+use Rattle.inside_judge.specs.JudgesLaws.{on_none}
+use Rattle.inside_judge.specs.RunsLaws.{on_join}
+use Rattle.inside_judge.specs.PartsLaws.{on_first}
+use Rattle.inside_judge.proofs.judge_blocks.Goals as goal
+
+pub loop-used-init : goal.loop-used-init
+loop-used-init c =
+    λ u on.
+    let a = c.args in
+    let e : a.m.size - 0 ≡ a.m.size = omega arith in
+    rw e at on
+
+pub block_at-t-requires : goal.block_at-t-requires
+block_at-t-requires c = (c.requires.0, omega arith)
+
+pub advance-front-requires : goal.advance-front-requires
+advance-front-requires c = c.block_at-t.ensures.small
+
+pub note-s-requires : goal.note-s-requires
+note-s-requires c =
+    (c.block_at-t.ensures.small, c.requires.1, c.requires.2, c.advance-front.ensures)
+
+pub judge_entries-r-requires : goal.judge_entries-r-requires
+judge_entries-r-requires c =
+    let pre = c.requires in
+    let valid = c.block_at-t.ensures.valid in
+    (pre.0, valid.page_small, valid.within, pre.1, pre.2)
+
+pub loop-used-smaller : goal.loop-used-smaller
+loop-used-smaller c = c.block_at-t.ensures.less
+
+pub loop-used-preserved : goal.loop-used-preserved
+loop-used-preserved c =
+    λ u on.
+    let a = c.args in
+    let xs = a.image.now in
+    let next = c.block_at-t.result.next in
+    let entries = entries_from xs a.m next.page next.at next.left in
+    let blocks = blocks_from xs a.m (a.m.size - next.used) next.used in
+    let noted = c.note-s in
+    let rest = on_join entries blocks a.E a.c a.z noted.result c.judge_entries-r.result u c.judge_entries-r.ensures on in
+    c.loop-used.invariant u
+    (rw c.block_at-t.ensures.all
+    (on_first c.block_at-t.result.item (entries ++ blocks) a.E a.c a.z c.loop-used.r noted.result u noted.ensures rest))
+
+pub returns : goal.returns
+returns c =
+    let a = c.args in
+    let used = c.loop-used.used in
+    c.loop-used.invariant c.loop-used.r
+    (rw (blocks_end a.image.now a.m (a.m.size - used) used (omega arith)) (on_none a.E a.c a.z c.loop-used.r))

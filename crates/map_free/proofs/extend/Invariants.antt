@@ -1,0 +1,10 @@
+use Prim.Native.Nat.{◌-◌}
+use Rattle.map_ranges.specs.Table.{ranges_in}
+use Rattle.map_free.specs.Look.{Extending, Swept}
+use Rattle.map_free.proofs.extend.Given as goal
+
+abbrev pub invariant-loop-last : goal.invariant-loop-last
+invariant-loop-last l = Extending (ranges_in l.table l.n) l.first l.last × Swept l.table l.n l.last l.s
+
+abbrev pub decreases-loop-last : goal.decreases-loop-last
+decreases-loop-last l = 18446744073709551616 - l.last

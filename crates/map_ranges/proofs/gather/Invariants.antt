@@ -1,0 +1,10 @@
+use Prim.Native.Nat.{◌-◌}
+use lib.ListN.{length}
+use Rattle.map_ranges.specs.Gathering.{Gathering}
+use Rattle.map_ranges.proofs.gather.Given as goal
+
+abbrev pub invariant-loop-s : goal.invariant-loop-s
+invariant-loop-s l = Gathering l.dump l.at l.number l.count l.table
+
+abbrev pub decreases-loop-s : goal.decreases-loop-s
+decreases-loop-s l = length l.dump - l.at

@@ -1,0 +1,7 @@
+use Rattle.moves.specs.Moves.{difference}
+use Rattle.std.proofs.Common.{arith}
+use Rattle.move_image.proofs.modular_difference.Goals as goal
+
+pub returns : goal.returns
+unfolding difference
+returns c = omega arith

@@ -1,0 +1,5 @@
+-- The measure is how many digits are asked for.
+use Rattle.text_lines.proofs.+put_hex.Given as goal
+
+abbrev pub decreases-put_hex : goal.decreases-put_hex
+decreases-put_hex l = l.k
