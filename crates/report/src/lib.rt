@@ -1,28 +1,38 @@
 // The audit's program: reads two files, vendor.bin and shipped.bin in the folder that it is run in, and writes what `text_output::report` makes of them.
 #![tactic(auto)]
 
-ghost use Rattle.std.specs.Prelude.{◌≤◌, IfOk, length};
+ghost use Rattle.std.specs.Prelude.{◌≤◌, length};
 
 use std::io::Read;
 use std::rt::Files;
 use std::{fs, io};
 
-// Reads until the buffer is full or the input ends, and returns how many bytes it put at the buffer's start.
-fn read_full(input: &mut impl Read, buffer: &mut [u8]) -> io::Result<usize>
-    ensures { IfOk result (λ n. n ≤ length buffer.new) }
+// What one read brings; a read that fails brings nothing.
+fn read_some(input: &mut impl Read, buffer: &mut [u8]) -> usize
+    ensures { result ≤ length buffer.new }
+{
+    match input.read(buffer) {
+        Ok(count) => count,
+        Err(_) => 0,
+    }
+}
+
+// Reads until the buffer is full, the input ends or a read fails, and returns how many bytes it put at the buffer's start.
+fn read_full(input: &mut impl Read, buffer: &mut [u8]) -> usize
+    ensures { result ≤ length buffer.new }
 {
     let mut done = 0;
     while done < buffer.len() {
-        let count = input.read(&mut buffer[done..])?;
+        let count = read_some(input, &mut buffer[done..]);
         if count == 0 {
             break;
         }
         done += count;
     }
-    Ok(done)
+    done
 }
 
-// As much of a file as the buffer holds; a file that can't be opened or read, or whose path is not text, counts as empty.
+// As much of a file as the buffer holds and can be read; a file that can't be opened, or whose path is not text, counts as empty.
 fn load(rt: &impl Files, path: &[u8], buffer: &mut [u8]) -> usize
     ensures { result ≤ length buffer.new }
 {
@@ -34,10 +44,7 @@ fn load(rt: &impl Files, path: &[u8], buffer: &mut [u8]) -> usize
         Ok(file) => file,
         Err(_) => return 0,
     };
-    match read_full(&mut file, buffer) {
-        Ok(count) => count,
-        Err(_) => 0,
-    }
+    read_full(&mut file, buffer)
 }
 
 // What is printed of the files at two paths. One byte more than is taken is read, so that a longer file is seen.

@@ -41,7 +41,8 @@ returns-then-not-lists c =
 pub list-requires : goal.list-requires
 list-requires c =
     let a = c.args in
-    let ok = told c in record {
+    let ok = told c in
+    record {
       paired = accepted_pair a.vendor.now a.shipped.now (length a.places.now) c.read-r.result
           c.survey-a.result.base c.read-r.ensures
           (ap (λ (q : Audited). q.base) c.survey-a.ensures) ok;

@@ -8,7 +8,8 @@ use Rattle.audit.proofs.list_bytes.Goals as goal
 pub list_bytes-requires : goal.list_bytes-requires
 list_bytes-requires c =
     let a = c.args in
-    let pair = c.requires.paired in let room = c.requires.shipped_in_bounds in (
+    let pair = c.requires.paired in
+    let room = c.requires.shipped_in_bounds in (
       pair.2,
       pair_long a.vendor.now a.shipped.now a.r a.base pair,
       rw (pair_differing a.vendor.now a.shipped.now a.r a.base pair c.if-r-eq0.true) room,
@@ -33,7 +34,8 @@ wide_difference-eight-requires c =
 pub fill_all-requires : goal.fill_all-requires
 fill_all-requires c =
     let a = c.args in
-    let pair = c.requires.paired in let room = c.requires.shipped_in_bounds in
+    let pair = c.requires.paired in
+    let room = c.requires.shipped_in_bounds in
     let some = c.if-r-eq0.false in (
       pair_guaranteed a.vendor.now a.shipped.now a.r a.base pair some,
       pair.2,

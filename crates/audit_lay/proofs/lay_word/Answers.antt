@@ -9,15 +9,21 @@ returns-then-m-eq8 c =
     rw (c.put64.ensures, e) (laid_whole a.from a.n a.p 8 a.w a.window.now c.requires.0 (omega arith) (omega arith))
 
 pub overflow_cast-w : goal.overflow_cast-w
-overflow_cast-w c = let h : c.args.w < 4294967296 = rw (⊎_elim (λ e. e) (λ e. absurd (c.if-m-eq8.false e)) c.requires.1) at c.requires.3 in record { fits = omega (arith, h) }
+overflow_cast-w c =
+    -- what hasn't 8 bytes has 4
+    let narrow : c.args.m ≡ 4 = ⊎_elim (λ e. e) (λ e. absurd (c.if-m-eq8.false e)) c.requires.1 in
+    let h : c.args.w < 4294967296 = rw narrow at c.requires.3 in
+    record { fits = omega (arith, h) }
 
 pub put32-requires : goal.put32-requires
-put32-requires c = omega (arith, (⊎_elim (λ e. e) (λ e. absurd (c.if-m-eq8.false e)) c.requires.1))
+put32-requires c =
+    let narrow : c.args.m ≡ 4 = ⊎_elim (λ e. e) (λ e. absurd (c.if-m-eq8.false e)) c.requires.1 in
+    omega (arith, narrow)
 
 pub returns-then-i-m : goal.returns-then-i-m
 returns-then-i-m c =
     let a = c.args in
-    let e = (⊎_elim (λ e. e) (λ e. absurd (c.if-m-eq8.false e)) c.requires.1) in
+    let e : a.m ≡ 4 = ⊎_elim (λ e. e) (λ e. absurd (c.if-m-eq8.false e)) c.requires.1 in
     rw (c.put32.ensures, e) (laid_whole a.from a.n a.p 4 a.w a.window.now c.requires.0 (omega arith) (omega (arith, e)))
 
 pub lay_part-requires : goal.lay_part-requires

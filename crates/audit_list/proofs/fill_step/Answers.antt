@@ -104,7 +104,8 @@ pub returns-then-s : goal.returns-then-s
 returns-then-s c =
     let a = c.args in
     let q = c.current_words-ahead in
-    let s = c.advance-s in record {
+    let s = c.advance-s in
+    record {
       filled = rw c.entry_of.ensures (fill_hit in_words (by a.vendor.now a.r a.four a.eight) a.shipped.now a.r
           a.places.now a.f s.result s.ensures q.result c.if-s.true);
       known = (

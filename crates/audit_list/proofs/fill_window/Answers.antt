@@ -35,13 +35,16 @@ next_in-m-requires c =
 pub shape_of-places-then-q-m : goal.shape_of-places-then-q-m
 shape_of-places-then-q-m c =
     let a = c.args in
+    -- the places up to where the walk has come
     (filled_join in_words (by a.vendor.now a.r a.four a.eight) a.shipped.now a.r a.places.now
     c.loop-m.places _ a.f c.loop-m.g c.fill_until-g.result c.loop-m.invariant.0 c.fill_until-g.ensures.filled).long
 
 pub returns-then-q-m : goal.returns-then-q-m
 returns-then-q-m c =
     let a = c.args in
-    let more = c.fill_until-g.ensures.filled in let on = c.fill_until-g.ensures.known in record {
+    let more = c.fill_until-g.ensures.filled in
+    let on = c.fill_until-g.ensures.known in
+    record {
       filled = filled_join in_words (by a.vendor.now a.r a.four a.eight) a.shipped.now a.r a.places.now
           c.loop-m.places _ a.f c.loop-m.g c.fill_until-g.result c.loop-m.invariant.0 more;
       known = (
@@ -60,7 +63,8 @@ loop-m-smaller c =
 pub loop-m-preserved : goal.loop-m-preserved
 loop-m-preserved c =
     let a = c.args in
-    let more = c.fill_until-g.ensures.filled in let up = c.fill_until-g.ensures.known in
+    let more = c.fill_until-g.ensures.filled in
+    let up = c.fill_until-g.ensures.known in
     let on = c.next_in-m.ensures in (
       filled_join in_words (by a.vendor.now a.r a.four a.eight) a.shipped.now a.r a.places.now
           c.loop-m.places _ a.f c.loop-m.g c.fill_until-g.result c.loop-m.invariant.0 more,

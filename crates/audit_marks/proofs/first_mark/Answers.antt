@@ -7,7 +7,8 @@ pub returns-then-n-k-ge8 : goal.returns-then-n-k-ge8
 returns-then-n-k-ge8 c =
     let a = c.args in
     let k = c.skip_eights-k.result in
-    let (low, high, clear) = c.skip_eights-k.ensures.lower_bound in let some = c.skip_eights-k.ensures.fact in
+    let (low, high, clear) = c.skip_eights-k.ensures.lower_bound in
+    let some = c.skip_eights-k.ensures.fact in
     first_on a.marks.now a.i a.n k c.first_of_eight.result low (omega arith) clear (some (omega arith))
     c.first_of_eight.ensures
 

@@ -51,6 +51,7 @@ in_image-at-4 c =
       | inr z ↦ omega (arith, c.lower.ensures.0, c.found-u.ensures.most)
     ]
 
+-- it has room for its bytes; the piece ends past the one before
 fits : (c : goal.After-ahead-1) → c.end_of-to.result - c.upper-from.result ≤ length c.lay_fixed.new.window
 fits c =
     omega (arith, c.lay_fixed.ensures.same_length, c.copy.ensures.window_len_unchanged, c.end_of-to.ensures.2, c.size_of-size.ensures.0)

@@ -15,7 +15,8 @@ use Rattle.audit_window.proofs.fill.Goals as goal
 pub loop-spot-init : goal.loop-spot-init
 loop-spot-init c =
     let a = c.args in
-    let p = c.requires.v_in_bounds in let q = c.requires.n_bound in
+    let p = c.requires.v_in_bounds in
+    let q = c.requires.n_bound in
     (p.2, drawing_start (value a.image.now a.four a.eight) (ahead a.image.now a.v a.s) a.from a.n a.window.now q.1, omega arith, passed_start a.image.now a.v a.s (a.from + a.n) p.2, λ e. refl)
 
 pub shape_of-window-then-to-low_of : goal.shape_of-window-then-to-low_of

@@ -5,7 +5,8 @@ use Rattle.audit_windows.proofs.refill.Goals as goal
 
 pub fill-spot-requires : goal.fill-spot-requires
 fill-spot-requires c =
-    let p = c.requires.v_in_bounds in let q = c.requires.valid in
+    let p = c.requires.v_in_bounds in
+    let q = c.requires.valid in
     let passed = c.seek-u.ensures.passed in
     let (low, most, few, more) = c.end_of-to.ensures in
     let size = c.clear.ensures.0 in record { v_in_bounds = (p.0, p.1, passed.valid, λ k w h. q.1 k w (passed.back k w h)); n_bound = (omega (arith, p.1), omega arith, c.clear.ensures.1) }

@@ -2,6 +2,7 @@ use Rattle.c_answers.specs.Answers.{twos}
 use Rattle.words.specs.Put.{put_all}
 use mathlib.Core.List.{[], ◌∷◌}
 use Prim.Native.Nat.{ℕ}
+use mir.Syntax.{w64}
 use mir.Facts.{to_z-of_z}
 use mathlib.Core.Path.{ap, ◌∙◌}
 use borrow.Author.Rules.{rules}
@@ -11,4 +12,4 @@ pub returns : goal.returns
 returns c =
     let a = c.args in
     let r = a.r in
-    c.write_fields.ensures ∙ ap (λ (v : ℕ). put_all 8 a.answer.now 0 (r.number ∷ r.index ∷ v ∷ [])) (c.twos_complement.ensures ∙ ap twos (to_z-of_z (search rules)))
+    c.write_fields.ensures ∙ ap (λ (v : ℕ). put_all 8 a.answer.now 0 (r.number ∷ r.index ∷ v ∷ [])) (c.twos_complement.ensures ∙ ap twos (to_z-of_z {w = w64} {z = r.distance} (search rules)))

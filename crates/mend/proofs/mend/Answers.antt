@@ -21,12 +21,12 @@ reads-at-3 c = rw c.read_2-r.ensures at c.if-r-ne0.false
 accepted : (c : goal.After-put_back-arg-1) →
     let a = c.args in
     Answered a.vendor.now a.shipped.now (length a.places.now) c.audit-a.result
-accepted c = (reads-at-2 c, (c.audit-a.ensures.0), c.if-a-ne0.false)
+accepted c = (reads-at-2 c, c.audit-a.ensures.0, c.if-a-ne0.false)
 
 accepted-at-2 : (c : goal.After-slice_known-4-1) →
     let a = c.args in
     Answered a.vendor.now a.shipped.now (length a.places.now) c.audit-a.result
-accepted-at-2 c = (reads-at-3 c, (c.audit-a.ensures.0), c.if-a-ne0.false)
+accepted-at-2 c = (reads-at-3 c, c.audit-a.ensures.0, c.if-a-ne0.false)
 
 pub returns-then-r-ne0 : goal.returns-then-r-ne0
 returns-then-r-ne0 c =
@@ -44,7 +44,8 @@ pub returns-then-a-ne0 : goal.returns-then-a-ne0
 returns-then-a-ne0 c =
     let a = c.args in
     let room = length a.places.now in
-    let e = (c.audit-a.ensures.0) ∙ sym (mend_read a.vendor.now a.shipped.now room (reads c)) in (
+    -- the audit's answer is the mending's, and its list the mending's
+    let e = c.audit-a.ensures.0 ∙ sym (mend_read a.vendor.now a.shipped.now room (reads c)) in (
       e,
       c.audit-a.ensures.1 ∙ sym (places_listed a.vendor.now a.shipped.now a.places.now (reads c)),
       sym (file_kept a.vendor.now a.shipped.now room (rw e at c.if-a-ne0.true)),

@@ -22,12 +22,12 @@ reads-at-3 c = rw c.read_2-read.ensures at c.if-read-ne0.false
 accepted : (c : goal.After-put_back-arg-1) →
     let a = c.args in
     Answered a.vendor.now a.shipped.now (length a.places.now / 4) c.audit_bytes-told.result
-accepted c = (reads-at-2 c, (c.audit_bytes-told.ensures.0), c.if-told-ne0.false)
+accepted c = (reads-at-2 c, c.audit_bytes-told.ensures.0, c.if-told-ne0.false)
 
 accepted-at-2 : (c : goal.After-slice_known-4-1) →
     let a = c.args in
     Answered a.vendor.now a.shipped.now (length a.places.now / 4) c.audit_bytes-told.result
-accepted-at-2 c = (reads-at-3 c, (c.audit_bytes-told.ensures.0), c.if-told-ne0.false)
+accepted-at-2 c = (reads-at-3 c, c.audit_bytes-told.ensures.0, c.if-told-ne0.false)
 
 pub returns-then-read-ne0 : goal.returns-then-read-ne0
 returns-then-read-ne0 c =
@@ -45,7 +45,8 @@ pub returns-then-told-ne0 : goal.returns-then-told-ne0
 returns-then-told-ne0 c =
     let a = c.args in
     let room = length a.places.now / 4 in
-    let e = (c.audit_bytes-told.ensures.0) ∙ sym (mend_read a.vendor.now a.shipped.now room (reads c)) in (
+    -- the audit's answer is the mending's, and its list the mending's
+    let e = c.audit_bytes-told.ensures.0 ∙ sym (mend_read a.vendor.now a.shipped.now room (reads c)) in (
       e,
       c.audit_bytes-told.ensures.1 ∙ sym (bytes_listed a.vendor.now a.shipped.now a.places.now (reads c)),
       sym (file_kept a.vendor.now a.shipped.now room (rw e at c.if-told-ne0.true)),

@@ -19,8 +19,10 @@ bytes-at-2 c = λ i. omega (arith, c.type_inv.vendor i)
 pub list_part-requires : goal.list_part-requires
 list_part-requires c =
     let a = c.args in
-    let pair = c.requires.paired in let room = c.requires.shipped_in_bounds in
-    let (old, new) = c.told.ensures in record {
+    let pair = c.requires.paired in
+    let room = c.requires.shipped_in_bounds in
+    let (old, new) = c.told.ensures in
+    record {
       from_le_to = (
         omega arith,
         omega arith,
@@ -48,7 +50,8 @@ wide_difference-eight-requires c = let a = c.args in pair_small a.vendor.now a.s
 pub list_moved-requires : goal.list_moved-requires
 list_moved-requires c =
     let a = c.args in
-    let pair = c.requires.paired in let room = c.requires.shipped_in_bounds in
+    let pair = c.requires.paired in
+    let room = c.requires.shipped_in_bounds in
     let some = c.is_plain.ensures.1 c.if-is_plain.false in (
       pair_guaranteed a.vendor.now a.shipped.now a.r a.base pair some,
       pair.2,
