@@ -1,5 +1,5 @@
 // Request #108: the bench's station. The call-order state is a record lent to be changed in place; each call reads it, runs the step of
-// `station_order` and stores the next state. What is lent is proved by a walk of the code, by hand.
+// `station_order` and stores the next state.
 #![tactic(auto)]
 
 ghost use Rattle.station.specs.Station.{Calls, Resets, CallsFrom, ResetsFrom};

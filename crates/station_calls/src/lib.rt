@@ -1,4 +1,4 @@
-// Request #108: the station's calls, each by its name. What is lent is proved by a walk of the code, by hand.
+// Request #108: the station's calls, each by its name.
 #![tactic(auto)]
 
 ghost use Rattle.station_order.specs.Order.{temp_ram_init, memory_init, temp_ram_exit, silicon_init, notify_phase, none};
