@@ -1,5 +1,5 @@
 -- Boot logs that the checker computes: what the theorems speak of.
--- Assumes Nothing.
+-- Assumes nothing.
 use Rattle.std.specs.Prelude.{ℕ, List, [], ◌∷◌, ◌++◌, ◌≡◌, refl}
 use Rattle.std.proofs.Common.{inl, inr}
 use Rattle.facts.specs.Fact.{test}
@@ -62,7 +62,7 @@ pub out_of_order : (answers at_reset (call memory_init ∷ call temp_ram_exit �
 unfolding answers ordered noted by_rows test
 out_of_order = (refl, refl, refl, refl)
 
--- calls 0 and 6, notifications 0 and 0xF1, where Nothing would be in order too
+-- calls 0 and 6, notifications 0 and 0xF1, where nothing would be in order too
 pub unknown_calls : (answers at_reset (call 0 ∷ call 6 ∷ notify 0 ∷ notify 0xF1 ∷ []) ≡ 41 ∷ 41 ∷ 41 ∷ 41 ∷ [])
     × (answers notifiedF0 (call 0 ∷ call 6 ∷ notify 0 ∷ notify 0xF1 ∷ []) ≡ 41 ∷ 41 ∷ 41 ∷ 41 ∷ [])
 unfolding answers ordered noted by_rows test
@@ -78,7 +78,7 @@ pub in_its_turn : answers at_reset (call silicon_init ∷ call memory_init ∷ c
 unfolding answers ordered noted by_rows test
 in_its_turn = refl
 
--- after the last notification Nothing (`ended`), and after a reset a whole boot again (`afresh`)
+-- after the last notification nothing (`ended`), and after a reset a whole boot again (`afresh`)
 pub again : (answers at_reset (without_init ++ with_init) ≡ 0 ∷ 0 ∷ 0 ∷ 0 ∷ 0 ∷ 40 ∷ 40 ∷ 40 ∷ 40 ∷ 40 ∷ 40 ∷ 40 ∷ [])
     × (log_answers at_reset (called (call memory_init) ∷ reset ∷ called (call temp_ram_init) ∷ called (call memory_init) ∷ []) ≡ 0 ∷ 0 ∷ 0 ∷ [])
     × (log_after notifiedF0 (reset ∷ called (call temp_ram_init) ∷ []) ≡ with_temp_ram)

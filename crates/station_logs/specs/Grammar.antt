@@ -1,5 +1,5 @@
 -- Request #108: which calls are taken from reset on, as the request says it.
--- Assumes Nothing.
+-- Assumes nothing.
 use Rattle.std.specs.Prelude.{ℕ, List, [], ◌∷◌, ◌⊎◌, ◌≡◌}
 use Rattle.station_order.specs.Order.{temp_ram_init, memory_init, temp_ram_exit, silicon_init, notify_phase}
 use Rattle.station_logs.specs.Log.{Call, NoRefusal}

@@ -1,5 +1,5 @@
 -- The grammar takes exactly the sequences without a refusal.
--- Assumes Nothing.
+-- Assumes nothing.
 use Rattle.std.specs.Prelude.{ℕ, ◌⊎◌, ◌≡◌, refl}
 use mathlib.Core.List.{List, [], ◌∷◌}
 use Rattle.std.proofs.Common.{inl, inr, arith}

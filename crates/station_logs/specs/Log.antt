@@ -1,5 +1,5 @@
 -- Request #108: a boot log, its answers and the state after it.
--- Assumes Nothing.
+-- Assumes nothing.
 use Rattle.std.specs.Prelude.{ℕ, ◌≡◌}
 use mathlib.Core.List.{List, [], ◌∷◌, foldl}
 use Rattle.station_order.specs.declared.Answer.{Answer}

@@ -1,5 +1,5 @@
 -- Request #108: what is said of boot logs.
--- Assumes Nothing.
+-- Assumes nothing.
 use Rattle.std.specs.Prelude.{ℕ, List, [], ◌∷◌, ◌++◌, map, ◌≡◌}
 use Rattle.station_order.specs.Order.{at_reset, notifiedF0}
 use Rattle.station.specs.declared.Station.{Station}

@@ -1,5 +1,5 @@
 -- Request #108's claims of a whole boot log.
--- Assumes Nothing.
+-- Assumes nothing.
 use Rattle.std.specs.Prelude.{ℕ, ◌+◌, ◌≤◌, ◌<◌, cond, ◌≡◌}
 use mathlib.Core.List.{List, [], ◌∷◌, ◌++◌, map, foldl-append}
 use Rattle.std.proofs.Math.Path.{refl}
@@ -105,7 +105,7 @@ once state l m c d first second same =
       ranks (after (next (after state l) c) m) d (rw e at second),
     )
 
--- ---- after the last notification Nothing but the reset is accepted
+-- ---- after the last notification nothing but the reset is accepted
 
 -- where a call is accepted the last notification hasn't been
 not_last : (state : ℕ) (c : Call) → Accepts state c → (state < notifiedF0) × (next state c ≤ notifiedF0)
