@@ -1,4 +1,4 @@
-// Document 02, #114: a pile of sheets folded into one.
+// Document 02, #114: a pile of sheets folded into one, by sorted runs; `fold` is the one that C calls.
 #![tactic(auto)]
 
 ghost use Rattle.std.specs.Prelude.{◌≡◌, ◌+◌, ◌*◌, ◌≤◌};

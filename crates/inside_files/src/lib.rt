@@ -1,7 +1,7 @@
 // The files of a volume and their sections, part by part.
 #![tactic(auto)]
 
-ghost use Rattle.std.specs.Prelude.{true, ◌≡◌, ◌+◌, ◌≤◌, ◌<◌, length, get_or};
+ghost use Rattle.std.specs.Prelude.{true, ℕ, ◌≡◌, ◌+◌, ◌≤◌, ◌<◌, length, get_or};
 ghost use Rattle.words.specs.Round.{round4};
 ghost use Rattle.facts.specs.Fact.{Tells, ◌≤?◌, ◌≡?◌, ◌or◌};
 ghost use Rattle.inside_files.specs.Parts.{free, file_fits, section_fits, sections_at, first_at, first_place};
@@ -78,7 +78,7 @@ fn skip_blocks(image: &[u8], v: usize, f: usize) -> usize
 // The same, eight at a time where no 32 are left.
 fn skip_free(image: &[u8], v: usize, f: usize) -> usize
     requires { (v ≤ length image.now) × (f ≤ v) }
-    ensures { (f + result ≤ v) × Full image.now f result }
+    ensures { (f + result ≤ v) × ((k : ℕ) → k < result → get_or image.now (f + k) 0 ≡ 255) }
 {
     let n = v - f;
     let mut i = skip_blocks(image, v, f);

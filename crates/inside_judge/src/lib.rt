@@ -4,7 +4,6 @@
 ghost use Rattle.std.specs.Prelude.{◌&&◌, [], ◌∷◌, ◌≡◌, ◌+◌, ◌*◌, ◌≤◌, ◌<◌, length};
 ghost use Rattle.facts.specs.Fact.{Holds, Tells};
 ghost use Rattle.apart_front.specs.Fronts.{Fronts};
-ghost use Rattle.items.specs.Items.{word_kind};
 ghost use Rattle.inside_files.specs.Parts.{section_part};
 ghost use Rattle.items.specs.Judged.{off, sound, placed, known};
 ghost use Rattle.inside_modules.specs.ModulesFit.{Fits};
@@ -99,7 +98,7 @@ fn both(a: bool, b: bool) -> bool
 // The highest end of a word, x being one more item.
 fn highest(top: usize, x: Item) -> usize
     requires { x.at + x.len < 1099511627776 }
-    ensures { (top ≤ result) × ((x.kind ≡ word_kind) → x.at + x.len ≤ result) }
+    ensures { (top ≤ result) × ((x.kind ≡ 2) → x.at + x.len ≤ result) }
 {
     if x.kind != items::WORD {
         return top;

@@ -154,7 +154,7 @@ module_counts xs file at m small low none within =
         (ap length e ∙ rw (word_count 3 (items xs m)) (omega arith))
 
     other : (Holds (is_module m) → ⊥) → counts_of (module_entries xs file at m) ≡ record { modules = 0; words = 0; entries = 0 }
-    other no_module_lem = rw (module_none xs file at m no_module_lem) none_counted
+    other no-module = rw (module_none xs file at m no-module) none_counted
 
 -- a module has two entries beside its words
 entries_sum : (xs : List ℕ) (n file : ℕ) (l : List Part) → n ≤ 16777216 → file < 16777216 → Each (Met 0 n) l

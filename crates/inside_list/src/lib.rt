@@ -4,7 +4,7 @@
 ghost use Rattle.std.specs.Prelude.{◌≡◌, [], ◌∷◌, ◌+◌, ◌*◌, ◌≤◌, ◌<◌, length};
 ghost use Rattle.facts.specs.Fact.{Holds, Tells};
 ghost use Rattle.words.specs.Put.{put_all};
-ghost use Rattle.items.specs.Items.{word_kind, each, inside, words_in};
+ghost use Rattle.items.specs.Items.{each, inside, words_in};
 ghost use Rattle.inside_modules.specs.ModulesFit.{Fits};
 ghost use Rattle.inside_blocks.specs.Blocks.{items};
 ghost use Rattle.inside_walk.specs.Walkable.{Walkable};
@@ -119,7 +119,7 @@ pub fn entry_of(code: usize, at: usize) -> u32
 
 // The item's entry, if it is a word. An entry is four bytes of the list.
 fn fill_word(places: &mut [u8], n: Next, x: Item) -> Next
-    requires { (n.code ≤ 5) × Holds (inside 16777216 x) × (x.kind ≡ word_kind → 4 * (n.at + 1) ≤ length places.old) }
+    requires { (n.code ≤ 5) × Holds (inside 16777216 x) × (x.kind ≡ 2 → 4 * (n.at + 1) ≤ length places.old) }
     ensures { Filled places.old places.new n x result }
 {
     if x.kind != items::WORD {

@@ -3,7 +3,6 @@
 
 ghost use Rattle.std.specs.Prelude.{◌≡◌, ◌+◌, ◌*◌, ◌≤◌, ◌<◌, length};
 ghost use Rattle.facts.specs.Fact.{Tells};
-ghost use Rattle.inside_rows.specs.Rows.{te_kind};
 ghost use Rattle.inside_modules.specs.ModulesFit.{Fits};
 ghost use Rattle.inside_pages.specs.Pages.{reaches, FirstRow, Paged};
 
@@ -71,7 +70,7 @@ fn first_row(image: &[u8], m: Module, page: usize) -> usize
 
 // By the section headers: sure where the first data that the page meets lies in the module.
 fn page_in(image: &[u8], m: Module, page: usize) -> Page
-    requires { Fits image.now m × (page < 4294967296) × (m.kind ≡ te_kind → ⊥) }
+    requires { Fits image.now m × (page < 4294967296) × (m.kind ≡ 0x12 → ⊥) }
     ensures { Paged image.now m page result }
 {
     let i = first_row(image, m, page);
@@ -95,7 +94,7 @@ fn page_in(image: &[u8], m: Module, page: usize) -> Page
 
 // By the shift of a TE module.
 fn page_shifted(image: &[u8], m: Module, page: usize) -> Page
-    requires { Fits image.now m × (page < 4294967296) × (m.kind ≡ te_kind) }
+    requires { Fits image.now m × (page < 4294967296) × (m.kind ≡ 0x12) }
     ensures { Paged image.now m page result }
 {
     if m.lo + page + 40 < m.stripped {

@@ -2,8 +2,6 @@
 #![tactic(auto)]
 
 ghost use Rattle.std.specs.Prelude.{◌≡◌, ◌+◌, ◌≤◌, ◌<◌, length};
-ghost use Rattle.items.specs.Items.{end_kind};
-ghost use Rattle.inside_files.specs.Parts.{no_part, section_part};
 ghost use Rattle.inside_walk.specs.Entries.{count_of, past_of};
 ghost use Rattle.inside_walk.specs.Whole.{module_in, item_for};
 ghost use Rattle.inside_walk.specs.WholeWalk.{first_spot, Valid, Stepped, Ended};
@@ -29,7 +27,7 @@ pub struct Move {
 
 // The module of a part, if it is a section that holds one.
 pub fn module_in(image: &[u8], p: Part) -> Module
-    requires { (length image.now ≤ 16777216) × (p.kind ≡ section_part → (4 ≤ p.len) × (p.at + p.len ≤ length image.now)) }
+    requires { (length image.now ≤ 16777216) × (p.kind ≡ 2 → (4 ≤ p.len) × (p.at + p.len ≤ length image.now)) }
     ensures { result ≡ module_in image.now p }
 {
     if p.kind == inside_files::SECTION {
@@ -43,7 +41,7 @@ pub fn module_in(image: &[u8], p: Part) -> Module
 // The item of a part with this module.
 pub fn item_for(p: Part, m: Module) -> Item
     requires { p.at + p.len ≤ 33554432 }
-    ensures { (result ≡ item_for p m) × ((result.kind ≡ end_kind) → p.kind ≡ no_part) × (result.at + result.len < 1099511627776) }
+    ensures { (result ≡ item_for p m) × ((result.kind ≡ 0) → p.kind ≡ 0) × (result.at + result.len < 1099511627776) }
 {
     if p.kind == inside_files::SECTION {
         if m.kind == inside_rows::BAD {

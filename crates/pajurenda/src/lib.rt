@@ -1,4 +1,4 @@
-// The library as C calls it. Each answer is written in a lent buffer; the header is include/pajurenda.h.
+// The library as C calls it, by the exports of `pajurenda_c`. Each answer is written in a lent buffer; the header is include/pajurenda.h.
 #![tactic(auto)]
 
 ghost use Rattle.pajurenda.specs.Promises.{ReadCall, ReleaseCall, SheetCall, SettingCall, AuditCall, ContentsCall, HandoffCall, HandoffsCall};

@@ -1,4 +1,4 @@
-// Document 01, "The audit".
+// Document 01, "The audit", over the reference piece by piece; `audit` is the one that C calls.
 #![tactic(auto)]
 
 ghost use Rattle.std.specs.Prelude.{true, false, ◌⊎◌, ◌≡◌, ◌/◌, ◌≤◌, length};

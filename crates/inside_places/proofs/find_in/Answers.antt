@@ -6,7 +6,7 @@ use native.Mathlib.Omega.{arith}
 use borrow.Author.Tests.{lt-ltb, le-ltb}
 use Rattle.inside_places.proofs.find_in.Goals as goal
 
--- the section header that is found_in starts at or below the address
+-- the section header that is found starts at or below the address
 held : (c : goal.After-struct_known-then-i-m-3-1) → c.row_at-w.result.va ≤ c.args.rva
 held c =
     let a = c.args in
