@@ -2,7 +2,7 @@
 #![tactic(auto)]
 
 // What tells one release of an image from another: the image identity, the revision, and the extended number.
-#[derive(Clone, Copy)]
+#[derive(Clone, Copy, PartialEq, Eq)]
 pub struct Identity {
     pub image: u64,
     pub revision: u32,
@@ -10,6 +10,8 @@ pub struct Identity {
 }
 
 // The answer of a reading: number 0 and the fields, or the refusal's number and index and zero in every other field.
+// Here and below a record with a number, and no Result: a C call (`pajurenda_read`) writes each field, zeros too, and the theorems
+// (`Reads`, `Reads2`, the demands) speak of `number`.
 #[derive(Clone, Copy)]
 pub struct Reading {
     pub number: u32,
@@ -24,7 +26,8 @@ pub struct Reading {
     pub E: usize,
 }
 
-// The answer of a release: number 0 and the move, new base minus old; or the refusal's number and index.
+// The answer of a release: number 0 and the move, new base minus old; or the refusal's number and index. No Result: `pajurenda_release`
+// writes each field, and `Releases` says what they are.
 #[derive(Clone, Copy)]
 pub struct Moved {
     pub number: u32,
@@ -32,7 +35,8 @@ pub struct Moved {
     pub distance: i64,
 }
 
-// The answer of an audit: number 0 or 20 and the base and counts, or another refusal's number and index and zeros.
+// The answer of an audit: number 0 or 20 and the base and counts, or another refusal's number and index and zeros. No Result:
+// `pajurenda_audit` writes each field, `Audits` says what they are, and 20 is a refusal that has counts.
 #[derive(Clone, Copy)]
 pub struct Audited {
     pub number: u32,
@@ -44,7 +48,8 @@ pub struct Audited {
     pub explained: bool,
 }
 
-// The answer: number 0 or 20 and the counts, or another refusal's number and index and zeros.
+// The answer: number 0 or 20 and the counts, or another refusal's number and index and zeros. No Result: `pajurenda_contents` writes each
+// field, and `Lists` says what they are.
 #[derive(Clone, Copy)]
 pub struct Listed {
     pub number: u32,
@@ -54,7 +59,8 @@ pub struct Listed {
     pub entries: usize,
 }
 
-// The answer of a lookup: number 0 and where in the image the setting stands, or the refusal's number and zeros.
+// The answer of a lookup: number 0 and where in the image the setting stands, or the refusal's number and zeros. No Result:
+// `pajurenda_setting` writes each field, and `Finds` says what they are.
 #[derive(Clone, Copy)]
 pub struct Found {
     pub number: u32,

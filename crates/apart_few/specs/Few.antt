@@ -1,6 +1,6 @@
 -- Request #107, rule 26: items beside the patch words.
 -- Assumes nothing.
-use Rattle.std.specs.Prelude.{ℕ, List, ◌≡◌}
+use Rattle.std.specs.Prelude.{List, ◌≡◌}
 use Rattle.facts.specs.Fact.{Fact, Holds}
 use Rattle.items.specs.declared.Item.{Item}
 use Rattle.items.specs.Items.{each, apart}

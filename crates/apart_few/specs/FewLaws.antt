@@ -19,6 +19,7 @@ use Rattle.inside_judge.specs.Parts.{part_items}
 use Rattle.inside_judge.specs.Rules.{patch_from, patch_items}
 use Rattle.apart_front.specs.declared.Front.{Front}
 use Rattle.apart_front.specs.Fronts.{aside, Ordered, Fronts}
+use Rattle.apart_front.specs.FrontsLaws.{fronts_lost}
 use Rattle.apart_few.specs.Few.{besides, Bare, Past}
 
 -- off a patch word is apart from it
@@ -60,8 +61,7 @@ past_one ps xs p f u b h fronts =
 
 -- of what is lost nothing is said
 pub past_lost : (ps l : List Item) (f u : Front) → 1099511627776 ≤ u.top → Past ps l f u
-past_lost ps l f u e =
-    record { front = record { kept = λ o. absurd (omega arith); apart = λ o. absurd (omega arith) }; beside = λ o. absurd (omega arith) }
+past_lost ps l f u e = record { front = fronts_lost f l u e; beside = λ o. absurd (omega arith) }
 
 -- apart from what is before, and beside ps
 apart_more : (ps before l : List Item) → Holds (apart_from before l) → Holds (each (besides ps) l) → Holds (apart_from (ps ++ before) l)

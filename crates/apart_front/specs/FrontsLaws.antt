@@ -41,9 +41,9 @@ step_one f x u kept step = record { kept = kept; apart = λ ok before b. go befo
       },
     )
 
--- nothing is said
-pub unknown : (f : Front) (x : Item) (u : Front) → 1099511627776 ≤ u.top → Fronts f (x ∷ []) u
-unknown f x u e = record { kept = λ k. absurd (omega arith); apart = λ k. absurd (omega arith) }
+-- nothing is said, whatever is passed
+pub fronts_lost : (f : Front) (l : List Item) (u : Front) → 1099511627776 ≤ u.top → Fronts f l u
+fronts_lost f l u e = record { kept = λ k. absurd (omega arith); apart = λ k. absurd (omega arith) }
 
 module _ (f : Front) (x : Item) where
   abbrev End : ℕ

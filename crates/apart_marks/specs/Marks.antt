@@ -4,7 +4,7 @@ use Rattle.std.specs.Prelude.{ℕ, suc, ◌+◌, ◌*◌, ◌≤◌, ◌<◌, Bo
 use Rattle.facts.specs.Fact.{Fact, ◌≤?◌, ◌≡?◌, deny, ◌and◌, ◌or◌, Holds}
 use Rattle.table.specs.Passes.{place}
 use Rattle.items.specs.declared.Item.{Item}
-use Rattle.items.specs.Items.{each, apart, word_kind}
+use Rattle.items.specs.Items.{each, apart, word_kind, kind_number}
 
 -- the byte at k is one of x
 abbrev pub has : ℕ → Item → Fact
@@ -12,7 +12,7 @@ has k x = x.at ≤? k and suc k ≤? x.at + x.len
 
 -- the byte at k isn't one of both, or neither is a word
 abbrev pub apart_at : ℕ → Item → Item → Fact
-apart_at k x y = (deny (x.kind ≡? word_kind) and deny (y.kind ≡? word_kind)) or deny (has k x) or deny (has k y)
+apart_at k x y = (deny (kind_number x.kind ≡? word_kind) and deny (kind_number y.kind ≡? word_kind)) or deny (has k x) or deny (has k y)
 
 -- the byte at k is none of y
 abbrev pub free : ℕ → Item → Fact
@@ -20,7 +20,7 @@ free k y = deny (has k y)
 
 -- y is no word that has it
 abbrev pub calm : ℕ → Item → Fact
-calm k y = deny (y.kind ≡? word_kind) or deny (has k y)
+calm k y = deny (kind_number y.kind ≡? word_kind) or deny (has k y)
 
 -- m is the mark that the items of l leave at k
 pub record Mark (l : List Item) (k m : ℕ) : Type 0 where
@@ -36,12 +36,6 @@ pub record Marks (l : List Item) (w : ℕ) (ms : List ℕ) : Type 0 where
   pub at : (j : ℕ) → j < 65536 → Mark l (w + j) (get_or ms j 0)
 
 -- ---- marking a range
-
--- all bytes cleared, up to j
-pub record Cleared (ms ns : List ℕ) (j : ℕ) : Type 0 where
-  pub long : length ns ≡ length ms
-  pub within : j ≤ length ms
-  pub none : (i : ℕ) → i < j → get_or ns i 0 ≡ 0
 
 -- k, told from w on and cut to the window
 pub record Clipped (k w r : ℕ) : Type 0 where

@@ -6,12 +6,12 @@ use Rattle.std.proofs.Math.Decide.{dec_lt}
 use Rattle.facts.specs.Fact.{Fact, Holds}
 use Rattle.table.specs.Passes.{place}
 use Rattle.items.specs.declared.Item.{Item}
-use Rattle.items.specs.Items.{word, each, apart, word_kind}
+use Rattle.items.specs.Items.{word, each, apart, word_kind, kind_number}
 use Rattle.items.specs.ItemsLaws.{each_none, each_so, each_more, each_last}
 use Rattle.inside_judge.specs.Rules.{patch_from}
 use Rattle.apart_strokes.specs.Strokes.{Struck, Painting, Painted}
 use Rattle.apart_strokes.specs.StrokesLaws.{false_true}
-use Rattle.apart_marks.specs.Marks.{has, apart_at, free, calm, Mark, Marks, Cleared}
+use Rattle.apart_marks.specs.Marks.{has, apart_at, free, calm, Mark, Marks}
 use Rattle.apart_marks.specs.Marks.{StruckIn, PaintedIn, Clipped, Added}
 
 pub each_all : (p : Item → Fact) (l : List Item) → ((x : Item) → Holds (p x)) → Holds (each p l)
@@ -52,7 +52,7 @@ module _ (l : List Item) (x : Item) (k m : ℕ) (is : Mark l k m) where
       }
 
   -- x is a word that has it
-  pub mark_word : x.kind ≡ word_kind → Holds (has k x) → Mark (l ++ (x ∷ [])) k 2
+  pub mark_word : kind_number x.kind ≡ word_kind → Holds (has k x) → Mark (l ++ (x ∷ [])) k 2
   mark_word w h =
       record {
         small = omega arith;
@@ -63,7 +63,7 @@ module _ (l : List Item) (x : Item) (k m : ℕ) (is : Mark l k m) where
       }
 
   -- x has it and is no word, nor has a word been there
-  pub mark_kept : (x.kind ≡ word_kind → ⊥) → m ≤ 1 → Holds (has k x) → Mark (l ++ (x ∷ [])) k 1
+  pub mark_kept : (kind_number x.kind ≡ word_kind → ⊥) → m ≤ 1 → Holds (has k x) → Mark (l ++ (x ∷ [])) k 1
   mark_kept w low h =
       record {
         small = omega arith;
@@ -81,14 +81,14 @@ module _ (l : List Item) (x : Item) (k m : ℕ) (is : Mark l k m) where
   pub fits_word : m ≡ 0 → Holds (each (apart_at k x) l)
   fits_word z = each_so (free k) (apart_at k x) l (λ y h. inr (inr h)) (is.empty z)
 
-  pub fits_kept : (x.kind ≡ word_kind → ⊥) → m ≤ 1 → Holds (each (apart_at k x) l)
+  pub fits_kept : (kind_number x.kind ≡ word_kind → ⊥) → m ≤ 1 → Holds (each (apart_at k x) l)
   fits_kept w low = each_so (calm k) (apart_at k x) l go (is.wordless low)
     where
       go : (y : Item) → Holds (calm k y) → Holds (apart_at k x y)
       go y (inl n) = inl (w, n)
       go y (inr n) = inr (inr n)
 
-  pub clash_word : x.kind ≡ word_kind → Holds (has k x) → 0 < m → Holds (each (apart x) l) → ⊥
+  pub clash_word : kind_number x.kind ≡ word_kind → Holds (has k x) → 0 < m → Holds (each (apart x) l) → ⊥
   clash_word w h some all = let z = is.taken (each_so (apart x) (free k) l (λ y a. go y (pair_at k x y a)) all) in omega arith
     where
       go : (y : Item) → Holds (apart_at k x y) → Holds (free k y)
@@ -105,19 +105,6 @@ module _ (l : List Item) (x : Item) (k m : ℕ) (is : Mark l k m) where
       go y (inr (inr n)) = inr n
 
 -- ---- a range
-
-pub cleared_next : (ms ns os : List ℕ) (j : ℕ) → Cleared ms ns j → j < length ns → os ≡ set ns j 0 → Cleared ms os (j + 1)
-cleared_next ms ns os j p more e =
-    rw e
-    (record {
-      long = simp length-set p.long;
-      within = omega (arith, p.long);
-      none = λ i h.
-          elim (dec_lt i j) [
-            | yes l ↦ get_or-set_other ns j i 0 0 (omega arith) ∙ p.none i l
-            | no l ↦ let z : i ≡ j = omega arith in rw z (get_or-set_same ns j 0 0 more)
-          ];
-    })
 
 pub marks_none : (w : ℕ) (ms : List ℕ) → length ms ≡ 65536 → ((j : ℕ) → j < 65536 → get_or ms j 0 ≡ 0) → Marks [] w ms
 marks_none w ms long none = record { long = long; at = λ j h. mark_none (w + j) (get_or ms j 0) (none j h) }
@@ -178,7 +165,7 @@ by_has k x f g =
 
 -- a word marked over whatever was there
 pub worded_in : (ms ns : List ℕ) (w limit : ℕ) (x : Item) (l : List Item) → PaintedIn ms ns w x.at (x.at + x.len) limit 2 true
-    → x.kind ≡ word_kind → Marks l w ms → Marks (l ++ (x ∷ [])) w ns
+    → kind_number x.kind ≡ word_kind → Marks l w ms → Marks (l ++ (x ∷ [])) w ns
 worded_in ms ns w limit x l p word marks =
     record {
       long = p.long ∙ marks.long;
@@ -189,7 +176,7 @@ worded_in ms ns w limit x l p word marks =
     }
 
 kept_in : (ms ns : List ℕ) (w : ℕ) (x : Item) (l : List Item) → PaintedIn ms ns w x.at (x.at + x.len) 1 1 true
-    → (x.kind ≡ word_kind → ⊥) → Marks l w ms → Marks (l ++ (x ∷ [])) w ns
+    → (kind_number x.kind ≡ word_kind → ⊥) → Marks l w ms → Marks (l ++ (x ∷ [])) w ns
 kept_in ms ns w x l p other marks =
     record {
       long = p.long ∙ marks.long;
@@ -201,7 +188,7 @@ kept_in ms ns w x l p other marks =
           (λ t. rw (p.rest refl j h t) (mark_same l x (w + j) (get_or ms j 0) (marks.at j h) t));
     }
 
-pub added_word : (ms ns : List ℕ) (w : ℕ) (x : Item) (r : Bool) → x.kind ≡ word_kind → PaintedIn ms ns w x.at (x.at + x.len) 0 2 r
+pub added_word : (ms ns : List ℕ) (w : ℕ) (x : Item) (r : Bool) → kind_number x.kind ≡ word_kind → PaintedIn ms ns w x.at (x.at + x.len) 0 2 r
     → Added ms ns w x r
 added_word ms ns w x r word p =
     record {
@@ -217,7 +204,7 @@ added_word ms ns w x r word p =
           s.over all;
     }
 
-pub added_kept : (ms ns : List ℕ) (w : ℕ) (x : Item) (r : Bool) → (x.kind ≡ word_kind → ⊥) → PaintedIn ms ns w x.at (x.at + x.len) 1 1 r
+pub added_kept : (ms ns : List ℕ) (w : ℕ) (x : Item) (r : Bool) → (kind_number x.kind ≡ word_kind → ⊥) → PaintedIn ms ns w x.at (x.at + x.len) 1 1 r
     → Added ms ns w x r
 added_kept ms ns w x r other p =
     record {

@@ -1,28 +1,22 @@
 // Request #107, rule 26: marks of a window of 65,536 bytes, one for each byte: 2 where a word lies, 1 where only other items do.
 #![tactic(auto)]
 
-ghost use Rattle.std.specs.Prelude.{◌≡◌, [], ℕ, ◌+◌, ◌≤◌, ◌<◌, length, get_or};
+ghost use Rattle.std.specs.Prelude.{◌≡◌, [], ◌+◌, ◌≤◌, ◌<◌, length};
 ghost use Rattle.inside_judge.specs.Rules.{patch_items};
 ghost use Rattle.apart_marks.specs.Marks.{PaintedIn, Clipped, Added, Marks, Patch};
 
-use items::Item;
+use items::{Item, Kind};
 
 // Where k lies from w on, at most a window's length.
 fn clip(k: usize, w: usize) -> usize
     ensures { Clipped k w result }
 {
-    if k <= w {
-        return 0;
-    }
-    if 65536 <= k - w {
-        return 65536;
-    }
-    k - w
+    k.saturating_sub(w).min(65536)
 }
 
 // Marks those of the bytes at..end that lie in the window at w.
 fn paint_in(marks: &mut [u8], w: usize, at: usize, end: usize, limit: u8, mark: u8) -> bool
-    requires { (length marks.old ≡ 65536) × (at ≤ end) × (1 ≤ mark) × (mark ≤ 2) }
+    requires { (length marks.old ≡ 65536) × (at ≤ end) }
     ensures { PaintedIn marks.old marks.new w at end limit mark result }
 {
     let a = clip(at, w);
@@ -40,10 +34,10 @@ fn mark_word(marks: &mut [u8], w: usize, at: usize, len: usize) -> bool
         let a = at - w;
         if a <= 65528 {
             if len == 4 {
-                return apart_strokes::paint4(marks, a);
+                return apart_strokes::paint_word::<4>(marks, a);
             }
             if len == 8 {
-                return apart_strokes::paint8(marks, a);
+                return apart_strokes::paint_word::<8>(marks, a);
             }
         }
     }
@@ -55,22 +49,10 @@ pub fn mark_item(marks: &mut [u8], w: usize, x: Item) -> bool
     requires { (length marks.old ≡ 65536) × (x.at + x.len < 1099511627776) }
     ensures { Added marks.old marks.new w x result }
 {
-    if x.kind == items::WORD {
+    if x.kind == Kind::Word {
         return mark_word(marks, w, x.at, x.len);
     }
     paint_in(marks, w, x.at, x.at + x.len, 1, 1)
-}
-
-// No mark is left.
-pub fn clear_marks(marks: &mut [u8])
-    ensures marks_len_unchanged { length marks.new ≡ length marks.old }
-    ensures by_index { (j : ℕ) → j < length marks.old → get_or marks.new j 0 ≡ 0 }
-{
-    let mut j = 0;
-    while j < marks.len() {
-        marks[j] = 0;
-        j += 1;
-    }
 }
 
 // Marks the patch words, which other rules keep apart from each other.
@@ -78,10 +60,8 @@ pub fn mark_patch(image: &[u8], t: usize, n: usize, marks: &mut [u8], w: usize)
     requires { Patch image.now t n × Marks [] w marks.old }
     ensures { Marks (patch_items image.now t n) w marks.new }
 {
-    let mut i = 0;
-    while i < n {
+    for i in 0..n {
         let p = table::spot_at(image, t, i);
         paint_in(marks, w, p, p + 4, 2, 2);
-        i += 1;
     }
 }

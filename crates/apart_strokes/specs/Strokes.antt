@@ -1,8 +1,7 @@
 -- Marks of bytes: a stretch a..e is marked in one go or not at all.
 -- Assumes nothing.
-use Rattle.std.specs.Prelude.{ℕ, ◌+◌, ◌≤◌, ◌<◌, Bool, true, false, List, ◌≡◌, length, get_or}
-use Rattle.words.specs.Le.{le}
-use Rattle.words.specs.Put.{put}
+use Rattle.std.specs.Prelude.{ℕ, ◌+◌, ◌≤◌, ◌<◌, max, Bool, true, false, List, ◌≡◌, length, get_or, replicate}
+use Rattle.std.specs.List.{fold}
 
 -- one of a..e is marked past the limit
 pub record Struck (ms : List ℕ) (a e limit : ℕ) : Type 0 where
@@ -20,13 +19,12 @@ pub record Painting (ms ns : List ℕ) (a j limit mark : ℕ) : Type 0 where
   pub below : (i : ℕ) → i < a → get_or ns i 0 ≡ get_or ms i 0
   pub above : (i : ℕ) → j ≤ i → get_or ns i 0 ≡ get_or ms i 0
 
--- r: the 8 bytes at j end by e, were free, and are those of v
-pub record Eight (ms ns : List ℕ) (j e v : ℕ) (r : Bool) : Type 0 where
-  pub within : r ≡ true → j + 8 ≤ e
-  pub free : r ≡ true → le 8 ms j ≡ 0
-  pub is : r ≡ true → ns ≡ put 8 ms j v
-  pub same : r ≡ false → ns ≡ ms
+-- r: all of the stretch was within the limit, and is marked
+pub record Stroked (ms ns : List ℕ) (limit mark : ℕ) (r : Bool) : Type 0 where
   pub long : length ns ≡ length ms
+  pub met : r ≡ true → fold max 0 ms ≤ limit
+  pub done : r ≡ true → ns ≡ replicate (length ms) mark
+  pub bad : r ≡ false → limit < fold max 0 ms
 
 -- r: all of a..e was within the limit, and is marked
 pub record Painted (ms ns : List ℕ) (a e limit mark : ℕ) (r : Bool) : Type 0 where

@@ -1,65 +1,40 @@
 // Marks of bytes, one byte for each: a stretch is marked unless one of its bytes is marked already.
 #![tactic(auto)]
 
-ghost use Rattle.std.specs.Prelude.{◌≡◌, ◌+◌, ◌≤◌, length};
-ghost use Rattle.apart_strokes.specs.Strokes.{Eight, Painted};
+ghost use Rattle.std.specs.Prelude.{◌≡◌, ◌+◌, ◌≤◌, max, length};
+ghost use Rattle.std.specs.List.{fold};
+ghost use Rattle.apart_strokes.specs.Strokes.{Stroked, Painted};
 
-// Marks the 4 bytes at a, unless one of them is marked.
-pub fn paint4(marks: &mut [u8], a: usize) -> bool
-    requires { a + 4 ≤ length marks.old }
-    ensures { Painted marks.old marks.new a (a + 4) 0 2 result }
+// The highest of them, without a jump for each: so several are compared in one go.
+fn highest(marks: &[u8]) -> u8
+    ensures { result ≡ fold max 0 marks.now }
 {
-    if words::le32(marks, a) != 0 {
-        return false;
-    }
-    words::put32(marks, a, 0x02020202);
-    true
+    marks.iter().fold(0, |top: u8, m| top.max(*m))
 }
 
-// Marks the 8 bytes at a, unless one of them is marked.
-pub fn paint8(marks: &mut [u8], a: usize) -> bool
-    requires { a + 8 ≤ length marks.old }
-    ensures { Painted marks.old marks.new a (a + 8) 0 2 result }
+// Marks all of the stretch, unless a byte of it is marked past the limit.
+fn stroke(stretch: &mut [u8], limit: u8, mark: u8) -> bool
+    ensures { Stroked stretch.old stretch.new limit mark result }
 {
-    if words::le64(marks, a) != 0 {
+    if limit < highest(stretch) {
         return false;
     }
-    words::put64(marks, a, 0x0202020202020202);
-    true
-}
-
-// Marks the 8 bytes at j by those of v, if they end by e and none of them is marked.
-fn eight(marks: &mut [u8], j: usize, e: usize, v: u64) -> bool
-    requires { (j ≤ e) × (e ≤ length marks.old) }
-    ensures { Eight marks.old marks.new j e v result }
-{
-    if e - j < 8 {
-        return false;
-    }
-    if words::le64(marks, j) != 0 {
-        return false;
-    }
-    words::put64(marks, j, v);
+    stretch.fill(mark);
     true
 }
 
 // Marks a..e, unless one of them is marked past the limit.
 pub fn paint(marks: &mut [u8], a: usize, e: usize, limit: u8, mark: u8) -> bool
-    requires { (a ≤ e) × (e ≤ length marks.old) × (1 ≤ mark) × (mark ≤ 2) }
+    requires { (a ≤ e) × (e ≤ length marks.old) }
     ensures { Painted marks.old marks.new a e limit mark result }
 {
-    let v = mark as u64 * 0x0101010101010101;
-    let mut j = a;
-    while j < e {
-        if eight(marks, j, e, v) {
-            j += 8;
-            continue;
-        }
-        if limit < marks[j] {
-            return false;
-        }
-        marks[j] = mark;
-        j += 1;
-    }
-    true
+    stroke(&mut marks[a..e], limit, mark)
+}
+
+// Marks the N bytes at a, unless one of them is marked: N is known where it is compiled, so that the bytes of a word are looked at in one go.
+pub fn paint_word<const N: usize>(marks: &mut [u8], a: usize) -> bool
+    requires { a + N ≤ length marks.old }
+    ensures { Painted marks.old marks.new a (a + N) 0 2 result }
+{
+    stroke(&mut marks[a..a + N], 0, 2)
 }

@@ -1,6 +1,6 @@
 -- Request #107, rule 26: a run of items marked in a window, one after the other.
 -- Assumes nothing.
-use Rattle.std.specs.Prelude.{ℕ, ◌+◌, ◌*◌, ◌≤◌, ◌<◌, Bool, true, false, List, [], ◌∷◌, ◌++◌, ◌≡◌, length}
+use Rattle.std.specs.Prelude.{ℕ, ◌+◌, ◌*◌, ◌≤◌, ◌<◌, List, ◌++◌, ◌≡◌, length, Option, MatchOption}
 use Rattle.facts.specs.Fact.{Fact, ◌≤?◌, Holds}
 use Rattle.items.specs.declared.Item.{Item}
 use Rattle.items.specs.Items.{each, apart_from}
@@ -8,7 +8,6 @@ use Rattle.inside_modules.specs.ModulesFit.{Fits}
 use Rattle.inside_walk.specs.declared.Spot.{Spot}
 use Rattle.inside_walk.specs.Entries.{count_of}
 use Rattle.apart_marks.specs.Marks.{Marks}
-use Rattle.apart_windows.specs.declared.Reach.{Reach}
 use Rattle.apart_windows.specs.Clear.{apart_from_at}
 
 -- it ends by k
@@ -26,13 +25,16 @@ pub record Joined (ms ns : List ℕ) (w : ℕ) (n : List Item) : Type 0 where
 pub record Clashed (ms : List ℕ) (w : ℕ) (n : List Item) : Type 0 where
   pub never : (before l rest : List Item) → Marks (before ++ l) w ms → Holds (apart_from before (l ++ (n ++ rest))) → ⊥
 
--- r: they are apart, and end by its highest end, as what comes before them does
-pub record Reached (ms ns : List ℕ) (w high : ℕ) (n : List Item) (r : Reach) : Type 0 where
+-- they are apart; and they end by top, as what comes before them does by `high`
+pub record Along (ms ns : List ℕ) (w high : ℕ) (n : List Item) (top : ℕ) : Type 0 where
+  pub up : high ≤ top
+  pub joined : Joined ms ns w n
+  pub ends : Holds (each (end_by top) n)
+
+-- r is the highest end of what is passed with them, or none where they aren't apart
+pub record Reached (ms ns : List ℕ) (w high : ℕ) (n : List Item) (r : Option ℕ) : Type 0 where
   pub long : length ns ≡ length ms
-  pub up : high ≤ r.high
-  pub joined : r.ok ≡ true → Joined ms ns w n
-  pub ends : r.ok ≡ true → Holds (each (end_by r.high) n)
-  pub clash : r.ok ≡ false → Clashed ms w n
+  pub came : MatchOption r (Clashed ms w n) (λ top. Along ms ns w high n top)
 
 -- the entries at hand of s can be read
 pub record AtHand (xs : List ℕ) (s : Spot) : Type 0 where

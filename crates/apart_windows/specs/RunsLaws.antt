@@ -1,7 +1,7 @@
 -- A run of items grows by one or by another run.
 -- Assumes nothing.
-use Prim.Native.Nat.{ℕ, zero, suc, ◌+◌, ◌-◌, ◌*◌, ◌≤◌, ◌<◌}
-use Rattle.std.specs.Prelude.{Bool, true, false, ◌≡◌, eqb, length}
+use Prim.Native.Nat.{ℕ, suc, ◌+◌, ◌-◌, ◌*◌, ◌≤◌, ◌<◌}
+use Rattle.std.specs.Prelude.{Bool, true, false, ◌≡◌, eqb, Option, Some, None, MatchOption}
 use mathlib.Core.List.{List, [], ◌∷◌, ◌++◌, append_assoc, append-nil}
 use Rattle.std.proofs.Math.Path.{refl}
 use Rattle.std.proofs.Common.{sym, ap, ◌∙◌, add-one}
@@ -14,15 +14,14 @@ use Rattle.items.specs.Items.{each, apart_from}
 use Rattle.items.specs.ItemsLaws.{each_none, each_so, each_more, apart_fork}
 use Rattle.inside_rows.specs.declared.Module.{Module}
 use Rattle.inside_blocks.specs.Blocks.{item_of, entries_from}
+use Rattle.inside_blocks.specs.BlocksLaws.{entries_more}
+use Rattle.inside_judge.specs.RunsLaws.{entries_cut, entries_none}
 use Rattle.inside_walk.specs.declared.Spot.{Spot}
 use Rattle.inside_walk.specs.WholeWalk.{Valid}
 use Rattle.inside_walk.specs.Entries.{count_of, entries_within}
-use Rattle.apart_marks.specs.Marks.{Marks, Added}
-use Rattle.apart_strokes.specs.StrokesLaws.{false_true}
-use Rattle.apart_windows.specs.declared.Reach.{Reach}
-use Rattle.apart_windows.specs.Clear.{apart_from_at}
+use Rattle.apart_marks.specs.Marks.{Added}
 use Rattle.apart_windows.specs.ClearLaws.{at_more}
-use Rattle.apart_windows.specs.Runs.{end_by, Joined, Clashed, Reached, AtHand}
+use Rattle.apart_windows.specs.Runs.{end_by, Joined, Clashed, Along, Reached, AtHand}
 
 pub weaker : (n k : ℕ) (l : List Item) → n ≤ k → Holds (each (end_by n) l) → Holds (each (end_by k) l)
 weaker n k l h = each_so (end_by n) (end_by k) l (λ x e. omega arith)
@@ -76,81 +75,51 @@ module _ (ms ns : List ℕ) (w : ℕ) (a b : List Item) (j : Joined ms ns w a) w
 -- ---- an item, and the run after it
 
 pub reached_not : (ms ns : List ℕ) (w high : ℕ) (x : Item) (more : List Item) (r : Bool) → Added ms ns w x r → r ≡ false
-    → Reached ms ns w high (x ∷ more) (record { ok = false; high = high })
-reached_not ms ns w high x more r a e =
-    record {
-      long = a.long;
-      up = omega arith;
-      joined = λ t. false_true t;
-      ends = λ t. false_true t;
-      clash = λ t. clashed_one ms ns w x more (rw e at a);
-    }
+    → Reached ms ns w high (x ∷ more) None
+reached_not ms ns w high x more r a e = record { long = a.long; came = clashed_one ms ns w x more (rw e at a) }
 
-pub reached_run : (ms ns os : List ℕ) (w high top : ℕ) (x : Item) (more : List Item) (b : Bool) (r : Reach) → Added ms ns w x b → b ≡ true
+pub reached_run : (ms ns os : List ℕ) (w high top : ℕ) (x : Item) (more : List Item) (b : Bool) (r : Option ℕ) → Added ms ns w x b → b ≡ true
     → high ≤ top → x.at + x.len ≤ top → Reached ns os w top more r → Reached ms os w high (x ∷ more) r
 unfolding each
-reached_run ms ns os w high top x more b r a e up own q =
-    let one = joined_one ms ns w x (rw e at a) in
-    record {
-      long = q.long ∙ a.long;
-      up = omega (arith, q.up);
-      joined = λ t. joined_join ms ns w (x ∷ []) more one os (q.joined t);
-      ends = λ t. (omega (arith, q.up), q.ends t);
-      clash = λ t. clashed_join ms ns w (x ∷ []) more one (q.clash t);
-    }
+reached_run ms ns os w high top x more b r a e up own q = record { long = q.long ∙ a.long; came = go r q.came }
+  where
+    one : Joined ms ns w (x ∷ [])
+    one = joined_one ms ns w x (rw e at a)
+
+    go : (r : Option ℕ) → MatchOption r (Clashed ns w more) (λ t. Along ns os w top more t)
+        → MatchOption r (Clashed ms w (x ∷ more)) (λ t. Along ms os w high (x ∷ more) t)
+    go None c = clashed_join ms ns w (x ∷ []) more one c
+    go (Some t) k =
+        record { up = omega (arith, k.up); joined = joined_join ms ns w (x ∷ []) more one os k.joined; ends = (omega (arith, k.up), k.ends) }
 
 -- ---- the entries of a block
 
 module _ (xs : List ℕ) (m : Module) (page : ℕ) where
-  entries_split : (at i k : ℕ) → entries_from xs m page at (i + k) ≡ entries_from xs m page at i ++ entries_from xs m page (at + 2 * i) k
-  unfolding entries_from
-  entries_split at zero k =
-      let e : at + 2 * 0 ≡ at = omega arith in
-      let z : 0 + k ≡ k = omega arith in
-      rw (e, z)
-  entries_split at (suc i) k =
-      let e : at + 2 * suc i ≡ at + 2 + 2 * i = omega arith in
-      let z : suc i + k ≡ suc (i + k) = omega arith in
-      rw (e, z) (ap (λ (l : List Item). item_of xs m page (le 2 xs at) ∷ l) (entries_split (at + 2) i k))
-
-  entries_none : (at : ℕ) → entries_from xs m page at 0 ≡ []
-  unfolding entries_from
-  entries_none at = refl
-
   entries_first : (at k : ℕ) → entries_from xs m page at (suc k) ≡ item_of xs m page (le 2 xs at) ∷ entries_from xs m page (at + 2) k
   unfolding entries_from
   entries_first at k = refl
 
-  entries_more : (at i : ℕ)
-      → entries_from xs m page at (i + 1) ≡ entries_from xs m page at i ++ (item_of xs m page (le 2 xs (at + 2 * i)) ∷ [])
-  entries_more at i = entries_split at i 1 ∙ rw (entries_first (at + 2 * i) 0, entries_none (at + 2 * i + 2))
-
   -- i of them are marked
-  pub record Entered (ms ns : List ℕ) (w high at i top : ℕ) : Type 0 where
-    pub up : high ≤ top
-    pub joined : Joined ms ns w (entries_from xs m page at i)
-    pub ends : Holds (each (end_by top) (entries_from xs m page at i))
+  abbrev pub Entered : List ℕ → List ℕ → ℕ → ℕ → ℕ → ℕ → ℕ → Type 0
+  Entered ms ns w high at i top = Along ms ns w high (entries_from xs m page at i) top
 
   pub entered_none : (ms : List ℕ) (w high at : ℕ) → Entered ms ms w high at 0 high
   entered_none ms w high at =
-      record {
-        up = omega arith;
-        joined = rw (entries_none at) (joined_none ms w);
-        ends = rw (entries_none at) (each_none (end_by high));
-      }
+      rw (entries_none xs m page at) (record { up = omega arith; joined = joined_none ms w; ends = each_none (end_by high) })
 
   module _ (ms ns os : List ℕ) (w high at i top : ℕ) (g : Entered ms ns w high at i top) (x : Item) (b : Bool) (a : Added ns os w x b)
       (is : x ≡ item_of xs m page (le 2 xs (at + 2 * i))) where
     pub entered_next : b ≡ true → (up : ℕ) → top ≤ up → x.at + x.len ≤ up → Entered ms os w high at (i + 1) up
     entered_next e up h own =
         let l = entries_from xs m page at i in
-        record {
+        rw (add-one i, entries_more xs m page at i, ← is)
+        (record {
           up = omega (arith, g.up);
-          joined = rw (entries_more at i, ← is) (joined_join ms ns w l (x ∷ []) g.joined os (joined_one ns os w x (rw e at a)));
-          ends = rw (entries_more at i, ← is) (each_more (end_by up) l x (weaker top up l h g.ends) own);
-        }
+          joined = joined_join ms ns w l (x ∷ []) g.joined os (joined_one ns os w x (rw e at a));
+          ends = each_more (end_by up) l x (weaker top up l h g.ends) own;
+        })
 
-    pub entered_not : b ≡ false → (k : ℕ) → i < k → Reached ms os w high (entries_from xs m page at k) (record { ok = false; high = top })
+    pub entered_not : b ≡ false → (k : ℕ) → i < k → Reached ms os w high (entries_from xs m page at k) None
     entered_not e k h =
         let p : ℕ = at + 2 * i in
         let n : ℕ = k - suc i in
@@ -159,25 +128,15 @@ module _ (xs : List ℕ) (m : Module) (page : ℕ) where
         let more = entries_from xs m page (p + 2) n in
         let cut : l ++ entries_from xs m page p (suc n) ≡ l ++ (x ∷ more) = rw (is, entries_first p n) in
         let all : entries_from xs m page at k ≡ l ++ (x ∷ more) =
-        ap (λ (c : ℕ). entries_from xs m page at c) (sym z) ∙ entries_split at i (suc n) ∙ cut in
+        ap (λ (c : ℕ). entries_from xs m page at c) (sym z) ∙ entries_cut xs m page at i (suc n) ∙ cut in
         record {
           long = a.long ∙ g.joined.long;
-          up = g.up;
-          joined = λ t. false_true t;
-          ends = λ t. false_true t;
-          clash = λ t. rw all (clashed_join ms ns w l (x ∷ more) g.joined (clashed_one ns os w x more (rw e at a)));
+          came = rw all (clashed_join ms ns w l (x ∷ more) g.joined (clashed_one ns os w x more (rw e at a)));
         }
 
   pub entered_all : (ms ns : List ℕ) (w high at i k top : ℕ) → Entered ms ns w high at i top → i ≡ k
-      → Reached ms ns w high (entries_from xs m page at k) (record { ok = true; high = top })
-  entered_all ms ns w high at i k top g e =
-      record {
-        long = g.joined.long;
-        up = g.up;
-        joined = λ t. rw (← e) g.joined;
-        ends = λ t. rw (← e) g.ends;
-        clash = λ t. false_true (sym t);
-      }
+      → Reached ms ns w high (entries_from xs m page at k) (Some top)
+  entered_all ms ns w high at i k top g e = record { long = g.joined.long; came = rw e at g }
 
 pub at_hand : (xs : List ℕ) (v : ℕ) (s : Spot) → Valid xs v s → AtHand xs s
 at_hand xs v s valid = record { fits = valid.module_fits; page = valid.cursor.page_small; within = entries_within xs v s valid }

@@ -1,6 +1,6 @@
 -- Request #107, rule 26: the walk over all items in one window, and all windows from E up to top.
 -- Assumes nothing.
-use Rattle.std.specs.Prelude.{ℕ, suc, ◌+◌, ◌*◌, ◌≤◌, ◌<◌, Bool, true, false, List, [], ◌∷◌, ◌++◌, ◌≡◌, length, get_or}
+use Rattle.std.specs.Prelude.{ℕ, ◌+◌, ◌≤◌, ◌<◌, List, ◌++◌, ◌≡◌, Option, MatchOption}
 use Rattle.facts.specs.Fact.{Fact, ◌≤?◌, ◌≡?◌, ◌and◌, ◌or◌, Holds}
 use Rattle.table.specs.Passes.{place}
 use Rattle.items.specs.declared.Item.{Item}
@@ -14,7 +14,6 @@ use Rattle.inside_walk.specs.Walkable.{Walkable, Passing}
 use Rattle.inside_judge.specs.Rules.{patch_items}
 use Rattle.apart_marks.specs.Marks.{Marks, Patch}
 use Rattle.apart_windows.specs.declared.Trail.{Trail}
-use Rattle.apart_windows.specs.declared.Scan.{Scan}
 use Rattle.apart_windows.specs.Clear.{apart_from_at, between}
 use Rattle.apart_windows.specs.Runs.{end_by}
 
@@ -37,10 +36,9 @@ pub record Scanning (xs : List ℕ) (v f : ℕ) (before : List Item) (w : ℕ) (
   pub marks : Marks (before ++ passed) w ms
   pub apart : (j : ℕ) → j < 65536 → Holds (apart_from_at (w + j) before passed)
 
--- r: all are apart at the window's bytes
-pub record Scanned (xs : List ℕ) (v f : ℕ) (before : List Item) (w : ℕ) (r : Bool) : Type 0 where
-  pub clear : r ≡ true → (j : ℕ) → j < 65536 → Holds (apart_from_at (w + j) before (walked xs v f))
-  pub clash : r ≡ false → Holds (apart_from before (walked xs v f)) → ⊥
+-- all are apart at the window's bytes
+pub record Scanned (xs : List ℕ) (v f : ℕ) (before : List Item) (w : ℕ) : Type 0 where
+  pub clear : (j : ℕ) → j < 65536 → Holds (apart_from_at (w + j) before (walked xs v f))
 
 -- ---- what a window needn't look at
 
@@ -73,24 +71,18 @@ pub record Going (xs : List ℕ) (v f : ℕ) (before : List Item) (w : ℕ) (ms 
   pub ends : Holds (each (end_by r.high) scan.passed)
   pub behind : Behind xs v f (w + 65536) r.spot
 
--- a window without a mark
-pub record Clean (ms : List ℕ) : Type 0 where
-  pub long : length ms ≡ 65536
-  pub none : (j : ℕ) → j < 65536 → get_or ms j 0 ≡ 0
-
 -- what the scan of a window starts from
-pub record Open (xs : List ℕ) (v f t n : ℕ) (ms : List ℕ) (w : ℕ) (s : Spot) : Type 0 where
+pub record Open (xs : List ℕ) (v f t n w : ℕ) (s : Spot) : Type 0 where
   pub walkable : Walkable xs v f
   pub patch : Patch xs t n
-  pub clean : Clean ms
   pub behind : Behind xs v f w s
   pub small : w ≤ 16777216
 
--- what it gives
-pub record Shut (xs : List ℕ) (v f t n : ℕ) (ms : List ℕ) (w : ℕ) (r : Scan) : Type 0 where
-  pub scanned : Scanned xs v f (patch_items xs t n) w r.ok
-  pub long : length ms ≡ 65536
-  pub behind : Behind xs v f (w + 65536) r.next
+-- what it gives: where the next scan can start, or none where some aren't apart
+abbrev pub Shut : List ℕ → ℕ → ℕ → ℕ → ℕ → ℕ → Option Spot → Type 0
+Shut xs v f t n w r =
+    MatchOption r (Holds (apart_from (patch_items xs t n) (walked xs v f)) → ⊥)
+    (λ s. Scanned xs v f (patch_items xs t n) w × Behind xs v f (w + 65536) s)
 
 -- ---- all windows
 

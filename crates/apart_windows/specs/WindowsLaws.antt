@@ -1,12 +1,12 @@
 -- A turn of each loop over the items and the windows.
 -- Assumes nothing.
-use Rattle.std.specs.Prelude.{ℕ, zero, suc, ◌+◌, ◌-◌, ◌*◌, ◌≤◌, ◌<◌, Bool, true, false, List, [], ◌∷◌, ◌++◌, ◌≡◌, get_or}
-use Rattle.std.proofs.Common.{append_assoc, append-nil, inl, inr, sym, ◌∙◌, arith}
+use Rattle.std.specs.Prelude.{ℕ, zero, suc, ◌+◌, ◌-◌, ◌≤◌, ◌<◌, true, List, [], ◌∷◌, ◌++◌, ◌≡◌, get_or}
+use Rattle.std.proofs.Common.{append_assoc, append-nil, inl, inr, ◌∙◌, arith}
 use Rattle.std.proofs.Math.Decide.{dec_lt}
 use Rattle.facts.specs.Fact.{Holds, Tells}
 use Rattle.table.specs.Passes.{place}
 use Rattle.items.specs.declared.Item.{Item}
-use Rattle.items.specs.Items.{each, apart_from, end_kind}
+use Rattle.items.specs.Items.{each, apart_from, end_kind, kind_number}
 use Rattle.items.specs.ItemsLaws.{each_none, each_both, each_so, each_join}
 use Rattle.items.specs.Shapes.{solid, from}
 use Rattle.inside_walk.specs.declared.Spot.{Spot}
@@ -20,47 +20,38 @@ use Rattle.inside_walk.specs.Walkable.{Passing, passing_end, passing_next}
 use Rattle.inside_walk.specs.Entries.{entries_of, past_of, ahead_entries, past_far, passing_entries}
 use Rattle.inside_judge.specs.Rules.{patch_from, patch_items}
 use Rattle.apart_marks.specs.Marks.{apart_at, free, Marks}
-use Rattle.apart_strokes.specs.StrokesLaws.{false_true}
 use Rattle.apart_marks.specs.MarksLaws.{each_all, mark_same}
-use Rattle.apart_windows.specs.declared.Reach.{Reach}
 use Rattle.apart_windows.specs.declared.Trail.{Trail}
-use Rattle.apart_windows.specs.declared.Scan.{Scan}
 use Rattle.apart_windows.specs.Clear.{apart_from_at, between, ready}
 use Rattle.apart_windows.specs.ClearLaws.{apart_all, at_more}
-use Rattle.apart_windows.specs.Runs.{end_by, Reached}
+use Rattle.apart_windows.specs.Runs.{end_by, Joined, Clashed, Along}
 use Rattle.apart_windows.specs.RunsLaws.{weaker}
-use Rattle.apart_windows.specs.Windows.{Ready, Scanning, Scanned, Behind, past, Followed, Going, Shut, Windows}
+use Rattle.apart_windows.specs.Windows.{Ready, Scanning, Scanned, Behind, past, Followed, Going, Windows}
 
 -- ---- one window
 
 module _ (xs : List ℕ) (v f : ℕ) (before : List Item) (w : ℕ) (ms : List ℕ) (s : Spot) (u : Move)
     (g : Scanning xs v f before w ms s) (step : Stepped xs v s u) where
-  pub scan_end : u.item.kind ≡ end_kind → Scanned xs v f before w true
+  pub scan_end : kind_number u.item.kind ≡ end_kind → Scanned xs v f before w
   scan_end z =
       let e = passing_end xs v f g.passed s u g.at step z in
-      record { clear = λ t j h. rw e (g.apart j h); clash = λ t. false_true (sym t) }
+      record { clear = λ j h. rw e (g.apart j h) }
 
-  module _ (is : u.item.kind ≡ end_kind → ⊥) (ns : List ℕ) (high : ℕ) (r : Reach)
-      (run : Reached ms ns w high (u.item ∷ entries_of xs u.next) r) where
-    pub scan_found : r.ok ≡ false → Scanned xs v f before w false
-    scan_found e =
-        record {
-          clear = λ t. false_true t;
-          clash = λ t all.
-              let e2 : walked xs v f ≡ g.passed ++ ((u.item ∷ entries_of xs u.next) ++ ahead xs v (past_of u.next)) =
-              g.at.all ∙ rw (step.goes is, ahead_entries xs v u.next) in
-              (run.clash e).never before g.passed (ahead xs v (past_of u.next)) g.marks (rw e2 at all);
-        }
+  module _ (is : kind_number u.item.kind ≡ end_kind → ⊥) where
+    pub scan_found : Clashed ms w (u.item ∷ entries_of xs u.next) → Holds (apart_from before (walked xs v f)) → ⊥
+    scan_found clash all =
+        let e : walked xs v f ≡ g.passed ++ ((u.item ∷ entries_of xs u.next) ++ ahead xs v (past_of u.next)) =
+        g.at.all ∙ rw (step.goes is, ahead_entries xs v u.next) in
+        clash.never before g.passed (ahead xs v (past_of u.next)) g.marks (rw e at all)
 
-    pub scan_next : r.ok ≡ true → Scanning xs v f before w ns (past_of u.next)
-    scan_next e =
+    pub scan_next : (ns : List ℕ) → Joined ms ns w (u.item ∷ entries_of xs u.next) → Scanning xs v f before w ns (past_of u.next)
+    scan_next ns run =
         record {
           passed = g.passed ++ (u.item ∷ entries_of xs u.next);
           at = rw (append_assoc g.passed (u.item ∷ []) (entries_of xs u.next)) at
               (passing_entries xs v f (g.passed ++ (u.item ∷ [])) u.next (passing_next xs v f g.passed s u g.at step is));
-          marks = rw (← append_assoc before g.passed (u.item ∷ entries_of xs u.next))
-              ((run.joined e).went (before ++ g.passed) g.marks);
-          apart = λ j h. (run.joined e).fits before g.passed g.marks j h (g.apart j h);
+          marks = rw (← append_assoc before g.passed (u.item ∷ entries_of xs u.next)) (run.went (before ++ g.passed) g.marks);
+          apart = λ j h. run.fits before g.passed g.marks j h (g.apart j h);
         }
 
 -- ---- what a window needn't look at
@@ -118,14 +109,13 @@ past_above xs v k s valid (files, (sections, at_hand)) =
 
 -- nothing ahead has a byte in the window
 pub scan_past : (xs : List ℕ) (v f : ℕ) (before : List Item) (w : ℕ) (ms : List ℕ) (s : Spot) → Scanning xs v f before w ms s
-    → Holds (past (w + 65536) s) → Scanned xs v f before w true
+    → Holds (past (w + 65536) s) → Scanned xs v f before w
 scan_past xs v f before w ms s g p =
     record {
-      clear = λ t j h.
+      clear = λ j h.
           rw g.at.all
           (at_off (w + j) before g.passed (ahead xs v s) (g.apart j h)
           (each_so (from (w + 65536)) (free (w + j)) (ahead xs v s) (off j h) (past_above xs v (w + 65536) s g.at.valid p)));
-      clash = λ t. false_true (sym t);
     }
   where
     off : (j : ℕ) → j < 65536 → (x : Item) → Holds (from (w + 65536) x) → Holds (free (w + j) x)
@@ -133,16 +123,16 @@ scan_past xs v f before w ms s g p =
     off j h x (inr z) = λ b. omega (arith, b.0)
 
 pub going_next : (xs : List ℕ) (v f : ℕ) (before : List Item) (w : ℕ) (ms : List ℕ) (s : Spot) (r : Trail) (u : Move)
-    (g : Going xs v f before w ms s r) → Stepped xs v s u → (u.item.kind ≡ end_kind → ⊥) → (ns : List ℕ) (h : Reach)
-    → Reached ms ns w r.high (u.item ∷ entries_of xs u.next) h → h.ok ≡ true → (t : Spot) → t ≡ past_of u.next
-    → (q : Trail) → Followed (w + 65536) r h.high t q → Going xs v f before w ns t q
+    (g : Going xs v f before w ms s r) → Stepped xs v s u → (kind_number u.item.kind ≡ end_kind → ⊥) → (ns : List ℕ) (high : ℕ)
+    → Along ms ns w r.high (u.item ∷ entries_of xs u.next) high → (t : Spot) → t ≡ past_of u.next
+    → (q : Trail) → Followed (w + 65536) r high t q → Going xs v f before w ns t q
 unfolding scan_next
-going_next xs v f before w ms s r u g step is ns h run e t past q fol =
+going_next xs v f before w ms s r u g step is ns high run t past q fol =
     rw past
     (record {
       scan = next;
       ends = all;
-      behind = elim (dec_lt (w + 65536) h.high) [
+      behind = elim (dec_lt (w + 65536) high) [
         | yes l ↦ rw (fol.stays l) g.behind
         | no l ↦ rw (fol.goes (omega arith), past)
             (let low = weaker q.high (w + 65536) next.passed (omega (arith, fol.is)) all in
@@ -151,16 +141,16 @@ going_next xs v f before w ms s r u g step is ns h run e t past q fol =
     })
   where
     next : Scanning xs v f before w ns (past_of u.next)
-    next = scan_next xs v f before w ms s u g.scan step is ns r.high h run e
+    next = scan_next xs v f before w ms s u g.scan step is ns run.joined
 
     all : Holds (each (end_by q.high) next.passed)
     all =
         let l = g.scan.passed in
         rw fol.is
-        (each_join (end_by h.high) l (u.item ∷ entries_of xs u.next) (weaker r.high h.high l run.up g.ends) (run.ends e))
+        (each_join (end_by high) l (u.item ∷ entries_of xs u.next) (weaker r.high high l run.up g.ends) run.ends)
 
 -- the scan comes nearer to its end
-pub going_less : (xs : List ℕ) (v : ℕ) (s : Spot) (u : Move) (t : Spot) → Stepped xs v s u → (u.item.kind ≡ end_kind → ⊥)
+pub going_less : (xs : List ℕ) (v : ℕ) (s : Spot) (u : Move) (t : Spot) → Stepped xs v s u → (kind_number u.item.kind ≡ end_kind → ⊥)
     → t ≡ past_of u.next → far v t < far v s
 going_less xs v s u t step is past = rw past (omega (arith, past_far v u.next, step.less is))
 
@@ -170,17 +160,17 @@ pub windows_start : (xs : List ℕ) (v f : ℕ) (before : List Item) (E : ℕ) (
 windows_start xs v f before E s at =
     record { up = omega arith; done = λ k a b. absurd (omega arith); behind = behind_first xs v f E s at }
 
-pub windows_next : (xs : List ℕ) (v f t n E w : ℕ) (s : Spot) (ms : List ℕ) (r : Scan) → Windows xs v f (patch_items xs t n) E w s
-    → Shut xs v f t n ms w r → r.ok ≡ true → Windows xs v f (patch_items xs t n) E (w + 65536) r.next
-windows_next xs v f t n E w s ms r g shut ok =
+pub windows_next : (xs : List ℕ) (v f t n E w : ℕ) (s next : Spot) → Windows xs v f (patch_items xs t n) E w s
+    → Scanned xs v f (patch_items xs t n) w × Behind xs v f (w + 65536) next → Windows xs v f (patch_items xs t n) E (w + 65536) next
+windows_next xs v f t n E w s next g (scanned, behind) =
     record {
       up = omega (arith, g.up);
       done = λ k a b.
           elim (dec_lt k w) [
             | yes l ↦ g.done k a l
-            | no l ↦ let e : w + (k - w) ≡ k = omega arith in rw e at (shut.scanned.clear ok (k - w) (omega arith))
+            | no l ↦ let e : w + (k - w) ≡ k = omega arith in rw e at (scanned.clear (k - w) (omega arith))
           ];
-      behind = shut.behind;
+      behind = behind;
     }
 
 patch_ready : (xs : List ℕ) (t E top : ℕ) (j k : ℕ) → ((i : ℕ) → i < j + k → (E ≤ (place xs t i).at) × ((place xs t i).at + 4 ≤ top))
@@ -196,7 +186,3 @@ windows_end xs v f t n E top w s r g past =
     let words = patch_ready xs t E top 0 n (λ i l. (r.patch_high i (omega arith), r.patch_ends i (omega arith))) in
     let items = each_both solid (between E top) (walked xs v f) r.solid r.words in
     record { says = apart_all E top (patch_items xs t n) (walked xs v f) words items (λ k a b. g.done k a (omega arith)) }
-
-pub windows_found : (xs : List ℕ) (v f t n w : ℕ) (ms : List ℕ) (r : Scan) → Shut xs v f t n ms w r → r.ok ≡ false
-    → Tells false (apart_from (patch_items xs t n) (walked xs v f))
-windows_found xs v f t n w ms r shut e = record { says = shut.scanned.clash e }

@@ -2,6 +2,7 @@
 -- Assumes nothing.
 use Rattle.std.specs.Prelude.{ℕ, ◌+◌, ◌/◌, Bool, false, cond, List, ◌≡◌, length}
 use Rattle.std.proofs.Common.{sym, ◌∙◌}
+use Rattle.std.proofs.Math.Decide.{ℕ_discrete}
 use Rattle.std.proofs.lemmas.List.Edits.{sets}
 use Rattle.facts.specs.Fact.{Fact, ◌≤?◌, ◌≡?◌, deny, ◌and◌, test}
 use Rattle.facts.specs.Rules.{answer, rule}
@@ -13,6 +14,7 @@ use Rattle.reading_rules.specs.Reading.{parted, edition1, reading}
 use Rattle.answers.specs.After.{after_reading, unless_refused}
 use Rattle.move_image.specs.Moving.{move_to}
 use Rattle.answers.specs.declared.Audited.{Audited}
+use Rattle.audit_places.specs.Writing.{Writing}
 use Rattle.audit_count.specs.declared.Counts.{Counts}
 use Rattle.audit_count.specs.Differences.{differences, settings, strays, bits, entries}
 
@@ -78,6 +80,13 @@ listed_bytes xs ys bytes =
 abbrev pub listing : Audited → Fact
 listing a = a.number ≡? 0 and deny (a.settings ≡? 0 and a.strays ≡? 0)
 
+-- the promise of `audit_in`, of a list that is written as w says and in which so many places go: the answer, and the list afterwards, the
+-- entries from its start on and what it held after them, or what it held where the audit is refused
+abbrev pub AuditsIn : {A : Type 0} → Writing A → ℕ → List ℕ → List ℕ → List A → Audited → List A → Type 0
+AuditsIn w room xs ys places a l =
+    (a ≡ auditing xs ys room) × (a.number ≡ 0 → l ≡ w.all places 0 (entries (told_by xs) (differing xs ys)))
+    × ((a.number ≡ 0 → ⊥) → l ≡ places)
+
 -- the promise of `audit`: the answer, and the list afterwards
 abbrev pub Audits : List ℕ → List ℕ → List ℕ → Audited → List ℕ → Type 0
 Audits xs ys places a l = (a ≡ auditing xs ys (length places)) × (l ≡ listed xs ys places)
@@ -87,6 +96,17 @@ abbrev pub AuditsBytes : List ℕ → List ℕ → List ℕ → Audited → List
 AuditsBytes xs ys bytes a l = (a ≡ auditing xs ys (length bytes / 4)) × (l ≡ listed_bytes xs ys bytes)
 
 -- any two outcomes that they admit are the same
+pub one_audit_in : {A : Type 0} (w : Writing A) (room : ℕ) (xs ys : List ℕ) (places : List A) (a b : Audited) (l m : List A)
+    → AuditsIn w room xs ys places a l → AuditsIn w room xs ys places b m → (a ≡ b) × (l ≡ m)
+one_audit_in w room xs ys places a b l m (p, f, g) (q, h, k) =
+    let e : b ≡ a = q ∙ sym p in (
+      sym e,
+      elim (ℕ_discrete a.number 0) [
+        | yes z ↦ f z ∙ sym (h (rw e z))
+        | no n ↦ g n ∙ sym (k (rw e n))
+      ],
+    )
+
 pub one_audit : (xs ys places : List ℕ) (a b : Audited) (l m : List ℕ) → Audits xs ys places a l → Audits xs ys places b m
     → (a ≡ b) × (l ≡ m)
 one_audit xs ys places a b l m (p, q) (s, t) = (p ∙ sym s, q ∙ sym t)

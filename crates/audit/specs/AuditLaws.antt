@@ -1,6 +1,6 @@
 -- The answer of an audit and its list, case by case.
 -- Assumes nothing.
-use Rattle.std.specs.Prelude.{◌≡◌, refl, List, [], ◌∷◌, Bool, false, ℕ, suc, ◌+◌, ◌/◌, ◌^◌, ◌≤◌, ◌<◌, eqb}
+use Rattle.std.specs.Prelude.{◌≡◌, refl, List, [], ◌∷◌, false, ℕ, ◌+◌, ◌/◌, ◌^◌, ◌≤◌, ◌<◌, eqb}
 use Rattle.std.proofs.Math.Path.{sym, ap}
 use Rattle.std.proofs.Common.{◌∙◌}
 use native.Mathlib.Omega.{arith}
@@ -8,7 +8,7 @@ use Rattle.std.proofs.Math.Decide.{ℕ_discrete}
 use Rattle.std.proofs.Math.ListN.{length}
 use Rattle.std.proofs.lemmas.List.Edits.{sets}
 use borrow.Author.Tests.{le-leb, lt-leb}
-use Rattle.facts.specs.Fact.{Fact, Holds, ◌≤?◌, ◌≡?◌, deny, ◌and◌, test}
+use Rattle.facts.specs.Fact.{Holds, ◌≤?◌, ◌≡?◌, test}
 use Rattle.facts.specs.FactLaws.{passes, fails}
 use Rattle.facts.specs.Rules.{Rules, rule, answer, run}
 use Rattle.facts.specs.RulesLaws.{passed, by_test}
@@ -256,7 +256,7 @@ module _ (xs ys : List ℕ) (room : ℕ) where
       (e, h.read, h.paired, is, rw is h.legal)
 
   -- an accepted audit that has nothing to list has found no difference
-  none : (auditing xs ys room).number ≡ 0 → (Holds (listing (auditing xs ys room)) → ⊥) → differing xs ys ≡ []
+  pub none : (auditing xs ys room).number ≡ 0 → (Holds (listing (auditing xs ys room)) → ⊥) → differing xs ys ≡ []
   unfolding tally
   none z h =
       let told = (audit_accepted z).told in
@@ -277,14 +277,14 @@ module _ (xs ys : List ℕ) (room : ℕ) where
             ]
       ]
 
-  -- where there is nothing to list, the list is what it was
-  pub unlisted : (changed l : List ℕ) → (differing xs ys ≡ [] → changed ≡ l) → (Holds (listing (auditing xs ys room)) → ⊥)
-      → unless_refused (auditing xs ys room).number changed l ≡ l
-  unlisted changed l same h =
-      elim (ℕ_discrete (auditing xs ys room).number 0) [
-        | no n ↦ kept_so (auditing xs ys room).number changed l n
-        | yes z ↦ changed_so (auditing xs ys room).number changed l z ∙ same (none z h)
-      ]
+-- the list afterwards, by whether the audit is refused
+pub listed_so : (number : ℕ) (changed old new : List ℕ) → (number ≡ 0 → new ≡ changed) → ((number ≡ 0 → ⊥) → new ≡ old)
+    → new ≡ unless_refused number changed old
+listed_so number changed old new f g =
+    elim (ℕ_discrete number 0) [
+      | yes z ↦ f z ∙ sym (changed_so number changed old z)
+      | no n ↦ g n ∙ sym (kept_so number changed old n)
+    ]
 
 -- ---- which numbers and indices an audit answers
 

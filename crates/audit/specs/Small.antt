@@ -1,6 +1,6 @@
 -- The small image, audited: it was moved, two settings were changed, and byte 5 is a stray.
 -- Assumes nothing.
-use Rattle.std.specs.Prelude.{ℕ, ◌+◌, ◌≤◌, true, false, cond, ◌≡◌, length, set}
+use Rattle.std.specs.Prelude.{ℕ, ◌+◌, true, false, cond, ◌≡◌, length, set}
 use mathlib.Core.List.{List, [], ◌∷◌}
 use Rattle.std.proofs.Math.Path.{refl, sym, ap}
 use Rattle.std.proofs.Common.{◌∙◌, arith}

@@ -1,19 +1,19 @@
 // Document 01, "The audit".
 #![tactic(auto)]
 
-ghost use Rattle.std.specs.Prelude.{◌≡◌, ◌/◌, ◌≤◌, length};
-ghost use Rattle.std.proofs.lemmas.List.Edits.{sets};
+ghost use Rattle.std.specs.Prelude.{◌≡◌, ◌≤◌, length};
 ghost use Rattle.facts.specs.Fact.{Tells};
-ghost use Rattle.words.specs.Put.{put_all};
 ghost use Rattle.reading_rules.specs.Reading.{reading};
 ghost use Rattle.audit_count.specs.Differences.{entries, counts_of};
-ghost use Rattle.audit.specs.Audit.{reference, told_by, differing, refused_audit, carried, tally, auditing, listing, Audits, AuditsBytes};
+ghost use Rattle.audit.specs.Audit.{reference, told_by, differing, refused_audit, carried, tally, auditing, listing, AuditsIn, Audits, AuditsBytes};
 ghost use Rattle.audit.specs.AuditLaws.{Paired};
 
 use answers::{Audited, Reading};
 use audit_count::Counts;
+use audit_places::Unit;
 
-fn refused(number: u32, index: usize) -> Audited
+// A refusal that carries no counts.
+pub fn refused(number: u32, index: usize) -> Audited
     ensures { result ≡ refused_audit number index }
 {
     Audited {
@@ -27,7 +27,8 @@ fn refused(number: u32, index: usize) -> Audited
     }
 }
 
-fn carry(number: u32, base: u64, t: Counts, explained: bool) -> Audited
+// An answer that carries counts.
+pub fn carry(number: u32, base: u64, t: Counts, explained: bool) -> Audited
     ensures { result ≡ carried number base t explained }
 {
     Audited {
@@ -53,9 +54,8 @@ fn measure(vendor: &[u8], shipped: &[u8], r: Reading, base: u64) -> Counts
             bits: 0,
         };
     }
-    let four = move_image::modular_difference(r.base, base);
-    let eight = move_modules::wide_difference(r.base, base);
-    audit_count::count_all(vendor, shipped, r, four, eight)
+    let d = move_image::shift_between(r.base, base);
+    audit_count::count_all(vendor, shipped, r, d)
 }
 
 // The pair is one, and its base legal: the counts, and whether `room` places are enough.
@@ -89,7 +89,7 @@ fn survey(vendor: &[u8], shipped: &[u8], r: Reading, room: usize) -> Audited
 }
 
 // Whether an accepted answer has anything to list: equal files aren't walked a second time.
-fn lists(a: Audited) -> bool
+pub fn lists(a: Audited) -> bool
     ensures { Tells result (listing a) }
 {
     if a.number != 0 {
@@ -105,43 +105,27 @@ fn lists(a: Audited) -> bool
 }
 
 // Lists what differs, as the edition has it.
-fn list(vendor: &[u8], shipped: &[u8], places: &mut [u32], r: Reading, base: u64)
+fn list<U: Unit>(vendor: &[u8], shipped: &[u8], places: &mut [U], r: Reading, base: u64)
     requires paired { Paired vendor.now shipped.now r base }
-    requires shipped_in_bounds { length (differing vendor.now shipped.now) ≤ length places.old }
+    requires shipped_in_bounds { length (differing vendor.now shipped.now) ≤ U.places (length places.old) }
     ensures { places.new
-        ≡ sets places.old 0 (entries (told_by vendor.now) (differing vendor.now shipped.now)) }
+        ≡ U.writing.all places.old 0 (entries (told_by vendor.now) (differing vendor.now shipped.now)) }
 {
     if r.component == 0 {
         audit_plain::list(vendor, shipped, places);
         return;
     }
-    let four = move_image::modular_difference(r.base, base);
-    let eight = move_modules::wide_difference(r.base, base);
-    audit_list::fill_all(vendor, shipped, places, r, four, eight);
+    let d = move_image::shift_between(r.base, base);
+    audit_list::fill_all(vendor, shipped, places, r, d);
 }
 
-// The same in a list in which a place is four bytes.
-fn list_bytes(vendor: &[u8], shipped: &[u8], places: &mut [u8], r: Reading, base: u64)
-    requires paired { Paired vendor.now shipped.now r base }
-    requires shipped_in_bounds { length (differing vendor.now shipped.now) ≤ length places.old / 4 }
-    ensures { places.new
-        ≡ put_all 4 places.old 0 (entries (told_by vendor.now) (differing vendor.now shipped.now)) }
-{
-    if r.component == 0 {
-        audit_plain::list_bytes(vendor, shipped, places);
-        return;
-    }
-    let four = move_image::modular_difference(r.base, base);
-    let eight = move_modules::wide_difference(r.base, base);
-    audit_list_bytes::fill_all(vendor, shipped, places, r, four, eight);
-}
-
-// Audits a shipped file against the maker's image, whatever both are: what differs, listed in `places`, or a refusal that changes nothing.
-pub fn audit(vendor: &[u8], shipped: &[u8], places: &mut [u32]) -> Audited
-    ensures { Audits vendor.now shipped.now places.old result places.new }
+// Audits a shipped file against the maker's image, whatever both are, with a list of words or of bytes: what differs, listed in `places`,
+// or a refusal that changes nothing.
+pub fn audit_in<U: Unit>(vendor: &[u8], shipped: &[u8], places: &mut [U]) -> Audited
+    ensures { AuditsIn U.writing (U.places (length places.old)) vendor.now shipped.now places.old result places.new }
 {
     let r = reading::read(vendor);
-    let a = survey(vendor, shipped, r, places.len());
+    let a = survey(vendor, shipped, r, U::room(places));
     if !lists(a) {
         return a;
     }
@@ -149,15 +133,16 @@ pub fn audit(vendor: &[u8], shipped: &[u8], places: &mut [u32]) -> Audited
     a
 }
 
+// The same with a list of words.
+pub fn audit(vendor: &[u8], shipped: &[u8], places: &mut [u32]) -> Audited
+    ensures { Audits vendor.now shipped.now places.old result places.new }
+{
+    audit_in(vendor, shipped, places)
+}
+
 // The same with a list in which a place is four bytes; bytes after the last whole place are kept.
 pub fn audit_bytes(vendor: &[u8], shipped: &[u8], places: &mut [u8]) -> Audited
     ensures { AuditsBytes vendor.now shipped.now places.old result places.new }
 {
-    let r = reading::read(vendor);
-    let a = survey(vendor, shipped, r, places.len() / 4);
-    if !lists(a) {
-        return a;
-    }
-    list_bytes(vendor, shipped, places, r, a.base);
-    a
+    audit_in(vendor, shipped, places)
 }

@@ -1,6 +1,6 @@
 -- A step of the counting walk counts what it passes.
 -- Assumes nothing.
-use Rattle.std.specs.Prelude.{◌≡◌, true, false, ℕ, suc, ◌+◌, ◌-◌, ◌≤◌, length, get_or}
+use Rattle.std.specs.Prelude.{◌≡◌, ℕ, suc, ◌+◌, ◌-◌, ◌≤◌, ◌<◌, length, get_or}
 use Rattle.std.proofs.Common.{◌∙◌, inr, arith}
 use mathlib.Core.List.{List, [], ◌∷◌}
 use Rattle.facts.specs.Fact.{Holds}
@@ -12,11 +12,10 @@ use Rattle.moves.specs.MovesLaws.{moved_beside}
 use Rattle.move_modules.specs.Relocate.{shift}
 use Rattle.reading_rules.specs.Words.{words_of}
 use Rattle.reading_rules.specs.WordsLaws.{beside}
-use Rattle.audit_step.specs.declared.Step.{Step}
 use Rattle.audit_count.specs.declared.Tally.{Tally}
 use Rattle.audit_count.specs.Differences.{differences, setting, settings, strays, bits, counts_of}
 use Rattle.audit_count.specs.FlipLaws.{flips_most}
-use Rattle.audit_step.specs.Stride.{Stepped, by}
+use Rattle.audit_step.specs.Stride.{Alike, by}
 use Rattle.audit_tables.specs.declared.Ahead.{Ahead}
 use Rattle.audit_tables.specs.Ahead.{Known}
 use Rattle.audit_tables.specs.AheadLaws.{known_on}
@@ -30,62 +29,61 @@ region_plain xs r four eight k g h =
     moved_beside xs (words_of xs r) (shift four eight) (words_of xs r).count k
     (beside xs r g (words_of xs r).count k (omega arith) (inr (omega (arith, g))) (inr (omega arith, omega arith)))
 
-module _ (xs ys : List ℕ) (r : Reading) (four eight : ℕ) (g : Guaranteed xs r) (long : length ys ≡ length xs) (t : Tally) (s : Step)
-    (stepped : Stepped (by xs r four eight) ys t.at s) {ms : List ℕ} (standing : Standing xs r ms t) (q : Ahead)
+module _ (xs ys : List ℕ) (r : Reading) (four eight : ℕ) (g : Guaranteed xs r) (long : length ys ≡ length xs) (t : Tally) (k : ℕ)
+    (alike : Alike (by xs r four eight) ys t.at k) {ms : List ℕ} (standing : Standing xs r ms t) (q : Ahead)
     (known : Known xs r ms t.at q) where
-  -- what is left from t on is what is left from the step on
-  left : rest (by xs r four eight) ys t.at ≡ rest (by xs r four eight) ys s.at
-  left = rest_over (by xs r four eight) ys t.at s.at stepped.onward stepped.most stepped.clear
+  -- what is left from t on is what is left from k on
+  left : rest (by xs r four eight) ys t.at ≡ rest (by xs r four eight) ys k
+  left = rest_over (by xs r four eight) ys t.at k alike.onward alike.most alike.clear
 
-  pub step_hit : s.hit ≡ true
-      → Counted (by xs r four eight) ys r t (counted_at xs ys r t s.at q) × Standing xs r ms (counted_at xs ys r t s.at q)
+  -- at a difference
+  pub step_hit : k < length ys → (get_or ys k 0 ≡ get_or (by xs r four eight) k 0 → ⊥)
+      → Counted (by xs r four eight) ys r t (counted_at xs ys r t k q) × Standing xs r ms (counted_at xs ys r t k q)
   unfolding settings strays bits
-  step_hit hit =
-      let k = s.at in
+  step_hit less differs =
       let ref = by xs r four eight in
-      let f = stepped.found hit in
-      let e : rest ref ys t.at ≡ k ∷ rest ref ys (k + 1) = left ∙ rest_hit ref ys k f.0 f.1 in
-      let known' = known_on xs r t.at q known (k + 1) (omega (arith, stepped.onward)) in
+      let e : rest ref ys t.at ≡ k ∷ rest ref ys (k + 1) = left ∙ rest_hit ref ys k less differs in
+      let known' = known_on xs r t.at q known (k + 1) (omega (arith, alike.onward)) in
       by_test (λ (u : Tally). Counted ref ys r t u × Standing xs r ms u) (setting r k) _ _
       (λ h.
       let same = region_plain xs r four eight k g h in (
         record {
-          onward = omega (arith, stepped.onward);
+          onward = omega (arith, alike.onward);
           settings_kept = rw (e, passes (setting r k) h) (omega arith);
           strays_kept = rw (e, passes (setting r k) h) (omega arith);
           bits_kept = rw (e, passes (setting r k) h, same) (omega arith);
         },
         record {
-          most = omega (arith, f.0);
+          most = omega (arith, less);
           known = known';
-          few = omega (arith, standing.few, stepped.onward);
-          few_bits = omega (arith, standing.few_bits, stepped.onward, flips_most 8 (get_or ys k 0) (get_or xs k 0));
+          few = omega (arith, standing.few, alike.onward);
+          few_bits = omega (arith, standing.few_bits, alike.onward, flips_most 8 (get_or ys k 0) (get_or xs k 0));
         },
       ))
       (λ h. (
         record {
-          onward = omega (arith, stepped.onward);
+          onward = omega (arith, alike.onward);
           settings_kept = rw (e, fails (setting r k) h) (omega arith);
           strays_kept = rw (e, fails (setting r k) h) (omega arith);
           bits_kept = rw (e, fails (setting r k) h) (omega arith);
         },
         record {
-          most = omega (arith, f.0);
+          most = omega (arith, less);
           known = known';
-          few = omega (arith, standing.few, stepped.onward);
-          few_bits = omega (arith, standing.few_bits, stepped.onward);
+          few = omega (arith, standing.few, alike.onward);
+          few_bits = omega (arith, standing.few_bits, alike.onward);
         },
       ))
 
-  pub step_on : s.hit ≡ false
-      → Counted (by xs r four eight) ys r t (went_to t s.at q) × Standing xs r ms (went_to t s.at q)
-  step_on pass = (
-    record { onward = stepped.passed pass; settings_kept = rw left; strays_kept = rw left; bits_kept = rw left },
+  -- past bytes that are the reference's
+  pub step_on : t.at < k → Counted (by xs r four eight) ys r t (went_to t k q) × Standing xs r ms (went_to t k q)
+  step_on more = (
+    record { onward = more; settings_kept = rw left; strays_kept = rw left; bits_kept = rw left },
     record {
-      most = omega (arith, stepped.most);
-      known = known_on xs r t.at q known s.at stepped.onward;
-      few = omega (arith, standing.few, stepped.onward);
-      few_bits = omega (arith, standing.few_bits, stepped.onward);
+      most = omega (arith, alike.most);
+      known = known_on xs r t.at q known k alike.onward;
+      few = omega (arith, standing.few, alike.onward);
+      few_bits = omega (arith, standing.few_bits, alike.onward);
     },
   )
 

@@ -13,10 +13,12 @@ ghost use Rattle.audit_count.specs.Counting.{counted_at, went_to, Standing, Coun
 
 use answers::Reading;
 use audit_fill_window::{Mark, Window};
+use audit_step::Step;
 use audit_tables::Ahead;
+use moves::Shift;
 
 // Whether a position is in the settings part.
-fn is_setting(r: Reading, k: usize) -> bool
+pub fn is_setting(r: Reading, k: usize) -> bool
     requires { r.c + r.z < 2 ^ 32 }
     ensures { Tells result (setting r k) }
 {
@@ -30,7 +32,7 @@ fn is_setting(r: Reading, k: usize) -> bool
 }
 
 // How many bits of the two bytes differ.
-fn byte_flips(x: u8, y: u8) -> u32
+pub fn byte_flips(x: u8, y: u8) -> u32
     ensures value { result ≡ flips 8 x y }
     ensures upper_bound { result ≤ 8 }
 {
@@ -59,16 +61,15 @@ fn counted(vendor: &[u8], shipped: &[u8], r: Reading, past: Tally, k: usize, ahe
             at: k + 1,
             ahead,
             settings: past.settings + 1,
-            strays: past.strays,
             bits: past.bits + flips,
+            ..past
         };
     }
     Tally {
         at: k + 1,
         ahead,
-        settings: past.settings,
         strays: past.strays + 1,
-        bits: past.bits,
+        ..past
     }
 }
 
@@ -76,13 +77,7 @@ fn counted(vendor: &[u8], shipped: &[u8], r: Reading, past: Tally, k: usize, ahe
 fn went(t: Tally, k: usize, ahead: Ahead) -> Tally
     ensures { result ≡ went_to t k ahead }
 {
-    Tally {
-        at: k,
-        ahead,
-        settings: t.settings,
-        strays: t.strays,
-        bits: t.bits,
-    }
+    Tally { at: k, ahead, ..t }
 }
 
 // One step of the walk, with what it counts; the modules' next word is the one of m bytes at p.
@@ -91,28 +86,26 @@ fn count_step(
     shipped: &[u8],
     ranks: &[u32],
     r: Reading,
-    four: u32,
-    eight: u64,
+    d: Shift,
     t: Tally,
     p: usize,
     m: usize,
 ) -> Tally
     requires { Guaranteed vendor.now r × (length shipped.now ≡ length vendor.now) × (t.at < length vendor.now)
         × Standing vendor.now r ranks.now t × Coming vendor.now r t.at p m }
-    ensures counted { Counted (by vendor.now r four eight) shipped.now r t result }
+    ensures counted { Counted (by vendor.now r d.four d.eight) shipped.now r t result }
     ensures standing { Standing vendor.now r ranks.now result }
 {
     let known = t.ahead;
     let ahead = audit_tables::current_words(vendor, r, ranks, t.at, known);
-    let k = audit_step::pass(vendor, shipped, r, four, eight, t.at, ahead.first, p, m);
+    let k = audit_step::pass(vendor, shipped, r, d, t.at, ahead.first, p, m);
     if t.at < k {
         return went(t, k, ahead);
     }
-    let s = audit_step::advance(vendor, shipped, r, four, eight, t.at, ahead.first, p, m);
-    if s.hit {
-        return counted(vendor, shipped, r, t, s.at, ahead);
+    match audit_step::advance(vendor, shipped, r, d, t.at, ahead.first, p, m) {
+        Step::Differs(k) => counted(vendor, shipped, r, t, k, ahead),
+        Step::Passes(k) => went(t, k, ahead),
     }
-    went(t, s.at, ahead)
 }
 
 // The walk up to the end of that word.
@@ -121,22 +114,21 @@ fn count_until(
     shipped: &[u8],
     ranks: &[u32],
     r: Reading,
-    four: u32,
-    eight: u64,
+    d: Shift,
     t: Tally,
     p: usize,
     m: usize,
 ) -> Tally
     requires guaranteed { Guaranteed vendor.now r × (length shipped.now ≡ length vendor.now) × (t.at < length vendor.now)
         × Standing vendor.now r ranks.now t × Coming vendor.now r t.at p m }
-    requires left { Left (by vendor.now r four eight) shipped.now r t }
-    ensures { Left (by vendor.now r four eight) shipped.now r result × Standing vendor.now r ranks.now result
+    requires left { Left (by vendor.now r d.four d.eight) shipped.now r t }
+    ensures { Left (by vendor.now r d.four d.eight) shipped.now r result × Standing vendor.now r ranks.now result
         × (t.at < result.at) }
 {
     let end = audit_step::end_of(p, m, vendor.len());
     let mut u = t;
     while u.at < end {
-        u = count_step(vendor, shipped, ranks, r, four, eight, u, p, m);
+        u = count_step(vendor, shipped, ranks, r, d, u, p, m);
     }
     u
 }
@@ -148,15 +140,14 @@ fn count_window(
     ranks: &[u32],
     marks: &[u8],
     r: Reading,
-    four: u32,
-    eight: u64,
+    d: Shift,
     t: Tally,
     q: Window,
 ) -> Tally
     requires guaranteed { Guaranteed vendor.now r × (length shipped.now ≡ length vendor.now) × Standing vendor.now r ranks.now t
         × Within vendor.now r marks.now t.at q }
-    requires left { Left (by vendor.now r four eight) shipped.now r t }
-    ensures { Left (by vendor.now r four eight) shipped.now r result × Standing vendor.now r ranks.now result
+    requires left { Left (by vendor.now r d.four d.eight) shipped.now r t }
+    ensures { Left (by vendor.now r d.four d.eight) shipped.now r result × Standing vendor.now r ranks.now result
         × (t.at < result.at) × Stands vendor.now r marks.now result.at (spent q) }
 {
     let mut u = t;
@@ -165,7 +156,7 @@ fn count_window(
         width: q.width,
     };
     loop {
-        u = count_until(vendor, shipped, ranks, r, four, eight, u, m.at, m.width);
+        u = count_until(vendor, shipped, ranks, r, d, u, m.at, m.width);
         m = audit_windows::next_in(marks, q.from, q.to, m, u.at);
         if q.to <= m.at {
             return u;
@@ -179,13 +170,12 @@ fn walk_all(
     shipped: &[u8],
     ranks: &[u32],
     r: Reading,
-    four: u32,
-    eight: u64,
+    d: Shift,
     marks: &mut [u8],
 ) -> Tally
     requires { Guaranteed vendor.now r × (length shipped.now ≡ length vendor.now) × (length marks.old ≡ 65536)
         × Ranked vendor.now (entries_at r) r.n ranks.now }
-    ensures { Totals (by vendor.now r four eight) shipped.now r result }
+    ensures { Totals (by vendor.now r d.four d.eight) shipped.now r result }
 {
     let v = words::le64(vendor, 32);
     let f = r.H - 28;
@@ -199,7 +189,7 @@ fn walk_all(
     };
     while t.at < vendor.len() {
         q = audit_windows::current(vendor, v, f, marks, t.at, q);
-        t = count_window(vendor, shipped, ranks, marks, r, four, eight, t, q);
+        t = count_window(vendor, shipped, ranks, marks, r, d, t, q);
         q.at = q.to;
         q.width = 0;
     }
@@ -215,14 +205,14 @@ pub struct Counts {
 }
 
 // All counts.
-pub fn count_all(vendor: &[u8], shipped: &[u8], r: Reading, four: u32, eight: u64) -> Counts
+pub fn count_all(vendor: &[u8], shipped: &[u8], r: Reading, d: Shift) -> Counts
     requires { Guaranteed vendor.now r × (length shipped.now ≡ length vendor.now) }
-    ensures { result ≡ counts_of (by vendor.now r four eight) shipped.now r }
+    ensures { result ≡ counts_of (by vendor.now r d.four d.eight) shipped.now r }
 {
     let mut marks = [0u8; 65536];
     let mut list = [0u32; 1024];
     audit_tables::rank_words(vendor, r, &mut list);
-    let t = walk_all(vendor, shipped, &list, r, four, eight, &mut marks);
+    let t = walk_all(vendor, shipped, &list, r, d, &mut marks);
     Counts {
         settings: t.settings,
         strays: t.strays,

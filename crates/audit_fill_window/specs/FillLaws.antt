@@ -24,6 +24,7 @@ use Rattle.inside_walk.specs.Entries.{entries_of, past_of, ahead_entries}
 use Rattle.audit_marks.specs.Marks.{Marked}
 use Rattle.audit_fill_window.specs.Near.{Has, Telling, Low, Filling, Noting, Filled}
 use Rattle.audit_fill_window.specs.NearLaws.{step_none, entries_next, low_above, has_split, has_later}
+use Rattle.items.specs.Items.{kind_number, word_kind, end_kind}
 
 module _ (all : List Item) (from n : ℕ) where
   pub filling_start : (ms : List ℕ) → n ≤ length ms → ((i : ℕ) → i < n → get_or ms i 0 ≡ 0) → Filling all all from n ms
@@ -47,11 +48,11 @@ module _ (all : List Item) (from n : ℕ) where
 
   module _ (x : Item) (rest : List Item) (ms : List ℕ) (filling : Filling all (x ∷ rest) from n ms) where
     -- the item, if it is a word, is one of all
-    one : x.kind ≡ 2 → Has all x.at x.len
+    one : kind_number x.kind ≡ word_kind → Has all x.at x.len
     unfolding Has
     one k = filling.back _ _ (inl (k, refl, refl))
 
-    fork : (k w : ℕ) → Has (x ∷ rest) k w → ((x.kind ≡ 2) × (x.at ≡ k) × (x.len ≡ w)) ⊎ Has rest k w
+    fork : (k w : ℕ) → Has (x ∷ rest) k w → ((kind_number x.kind ≡ word_kind) × (x.at ≡ k) × (x.len ≡ w)) ⊎ Has rest k w
     unfolding Has
     fork k w h = h
 
@@ -59,18 +60,18 @@ module _ (all : List Item) (from n : ℕ) where
     unfolding Has
     later k w h = inr h
 
-    pub filling_width : Telling all → x.kind ≡ 2 → x.len < 256
+    pub filling_width : Telling all → kind_number x.kind ≡ word_kind → x.len < 256
     filling_width telling k = (telling _ _ (one k)).1
 
     module _ (new : List ℕ) (telling : Telling all) (marked : Marked ms from n x new) where
-      here : (i : ℕ) → Dec ((x.kind ≡ 2) × (x.at ≡ from + i))
+      here : (i : ℕ) → Dec ((kind_number x.kind ≡ word_kind) × (x.at ≡ from + i))
       here i =
-          elim (ℕ_discrete x.kind 2) [
+          elim (ℕ_discrete (kind_number x.kind) word_kind) [
             | yes a ↦ elim (ℕ_discrete x.at (from + i)) [ yes b ↦ yes (a, b) | no b ↦ no (λ h. b h.1) ]
             | no a ↦ no (λ h. a h.0)
           ]
 
-      set_there : (i : ℕ) → i < n → x.kind ≡ 2 → x.at ≡ from + i → get_or new i 0 ≡ 0 → ⊥
+      set_there : (i : ℕ) → i < n → kind_number x.kind ≡ word_kind → x.at ≡ from + i → get_or new i 0 ≡ 0 → ⊥
       set_there i h a b z = omega (arith, marked.here i h a b, (telling _ _ (one a)).0)
 
       kept : (i : ℕ) → i < n → (get_or ms i 0 ≡ 0 → ⊥) → get_or new i 0 ≡ 0 → ⊥
@@ -105,7 +106,7 @@ module _ (all : List Item) (from n : ℕ) where
 
 -- a mark can tell a word of them
 abbrev Short : Item → Type 0
-Short x = x.kind ≡ 2 → x.len < 256
+Short x = kind_number x.kind ≡ word_kind → x.len < 256
 
 word_short : (m : Module) (p : Span) (w : ℕ) → w < 256 → Short (word_of m p w)
 unfolding word_of
@@ -180,8 +181,8 @@ module _ (xs : List ℕ) (v : ℕ) (all : List Item) (from n : ℕ) (ms : List �
   filling_entries new telling noting = noting all (ahead xs v (past_of t)) telling (rw (ahead_entries xs v t) at is)
 
   module _ (m : Move) (step : Stepped xs v t m) where
-    pub filling_end : m.item.kind ≡ 0 → Filled all from n ms
+    pub filling_end : kind_number m.item.kind ≡ end_kind → Filled all from n ms
     filling_end z = filling_done all from n (ahead xs v t) ms is (λ i w h. step_none xs v t m step z (from + i) w)
 
-    pub filling_step : (m.item.kind ≡ 0 → ⊥) → Filling all (m.item ∷ ahead xs v m.next) from n ms
+    pub filling_step : (kind_number m.item.kind ≡ end_kind → ⊥) → Filling all (m.item ∷ ahead xs v m.next) from n ms
     filling_step some = rw (step.goes some) at is

@@ -5,7 +5,7 @@ use Rattle.std.specs.Prelude.{ℕ, ◌+◌, ◌-◌, ◌≤◌, ◌<◌, List, [
 use Rattle.facts.specs.Fact.{Holds}
 use Rattle.moves.specs.Moves.{Words}
 use Rattle.items.specs.declared.Item.{Item}
-use Rattle.items.specs.Items.{apart_from, words_in, listed}
+use Rattle.items.specs.Items.{apart_from, words_in, listed, kind_number, word_kind}
 use Rattle.inside_rows.specs.declared.Module.{Module}
 use Rattle.inside_blocks.specs.declared.Cursor.{Cursor}
 use Rattle.inside_walk.specs.declared.Spot.{Spot}
@@ -40,7 +40,7 @@ pub record Next (xs : List ℕ) (v f at : ℕ) (q : Window) : Type 0 where
 -- a word of w bytes stands at k
 unfoldable pub Has : List Item → ℕ → ℕ → Type 0
 Has [] k w = ⊥
-Has (x ∷ l) k w = ((x.kind ≡ 2) × (x.at ≡ k) × (x.len ≡ w)) ⊎ Has l k w
+Has (x ∷ l) k w = ((kind_number x.kind ≡ word_kind) × (x.at ≡ k) × (x.len ≡ w)) ⊎ Has l k w
 
 -- a mark can tell each word
 abbrev pub Telling : List Item → Type 0

@@ -6,7 +6,7 @@ use Rattle.std.proofs.Math.Decide.{ℕ_discrete, dec_lt}
 use Rattle.facts.specs.Fact.{Holds}
 use Rattle.words.specs.Le.{le}
 use Rattle.items.specs.declared.Item.{Item}
-use Rattle.items.specs.Items.{each, apart_from, inside, words_in, nth}
+use Rattle.items.specs.Items.{each, apart_from, inside, words_in, nth, kind_number, word_kind, end_kind}
 use Rattle.items.specs.Listed.{words_none, words_more, words_same, spread}
 use Rattle.items.specs.Shapes.{from as above}
 use Rattle.inside_rows.specs.declared.Module.{Module}
@@ -27,9 +27,9 @@ pub has_nth : (l : List Item) (k w : ℕ) → Has l k w
 unfolding Has
 has_nth [] k w h = absurd h
 has_nth (x ∷ l) k w (inl h) = rw (words_more x l h.0) (0, omega arith, h.1, h.2)
-has_nth (x ∷ l) k w (inr h) = go (ℕ_discrete x.kind 2) (has_nth l k w h)
+has_nth (x ∷ l) k w (inr h) = go (ℕ_discrete (kind_number x.kind) word_kind) (has_nth l k w h)
   where
-    go : Dec (x.kind ≡ 2) → (i : ℕ) × (i < length (words_in l)) × ((nth (words_in l) i).at ≡ k) × ((nth (words_in l) i).len ≡ w)
+    go : Dec (kind_number x.kind ≡ word_kind) → (i : ℕ) × (i < length (words_in l)) × ((nth (words_in l) i).at ≡ k) × ((nth (words_in l) i).len ≡ w)
         → (i : ℕ) × (i < length (words_in (x ∷ l))) × ((nth (words_in (x ∷ l)) i).at ≡ k) × ((nth (words_in (x ∷ l)) i).len ≡ w)
     go (yes e) (i, a, b, c) = rw (words_more x l e) (suc i, omega arith, b, c)
     go (no e) r = rw (words_same x l e) r
@@ -37,9 +37,9 @@ has_nth (x ∷ l) k w (inr h) = go (ℕ_discrete x.kind 2) (has_nth l k w h)
 pub nth_has : (l : List Item) (i : ℕ) → i < length (words_in l) → Has l (nth (words_in l) i).at (nth (words_in l) i).len
 unfolding Has
 nth_has [] i h = absurd (omega (arith, words_none))
-nth_has (x ∷ l) i h = go i h (ℕ_discrete x.kind 2) (nth_has l)
+nth_has (x ∷ l) i h = go i h (ℕ_discrete (kind_number x.kind) word_kind) (nth_has l)
   where
-    go : (i : ℕ) → i < length (words_in (x ∷ l)) → Dec (x.kind ≡ 2)
+    go : (i : ℕ) → i < length (words_in (x ∷ l)) → Dec (kind_number x.kind ≡ word_kind)
         → ((j : ℕ) → j < length (words_in l) → Has l (nth (words_in l) j).at (nth (words_in l) j).len)
         → Has (x ∷ l) (nth (words_in (x ∷ l)) i).at (nth (words_in (x ∷ l)) i).len
     go i h (no n) rest = rw (words_same x l n) (inr (rest i (rw (words_same x l n) at h)))
@@ -78,18 +78,18 @@ has_one xs l within separate k w u g h =
 
 module _ (xs : List ℕ) (v : ℕ) (t : Spot) (m : Move) (step : Stepped xs v t m) where
   -- at the end there is none
-  pub step_none : m.item.kind ≡ 0 → (k w : ℕ) → Has (ahead xs v t) k w → ⊥
+  pub step_none : kind_number m.item.kind ≡ end_kind → (k w : ℕ) → Has (ahead xs v t) k w → ⊥
   unfolding Has
   step_none z k w h = rw (step.ends z) at h
 
   -- a word ahead is the item, or ahead of the next spot
-  step_fork : (m.item.kind ≡ 0 → ⊥) → (k w : ℕ) → Has (ahead xs v t) k w
-      → ((m.item.kind ≡ 2) × (m.item.at ≡ k) × (m.item.len ≡ w)) ⊎ Has (ahead xs v m.next) k w
+  pub step_fork : (kind_number m.item.kind ≡ end_kind → ⊥) → (k w : ℕ) → Has (ahead xs v t) k w
+      → ((kind_number m.item.kind ≡ word_kind) × (m.item.at ≡ k) × (m.item.len ≡ w)) ⊎ Has (ahead xs v m.next) k w
   unfolding Has
   step_fork is k w h = rw (step.goes is) at h
 
-  step_join : (m.item.kind ≡ 0 → ⊥) → (k w : ℕ)
-      → ((m.item.kind ≡ 2) × (m.item.at ≡ k) × (m.item.len ≡ w)) ⊎ Has (ahead xs v m.next) k w → Has (ahead xs v t) k w
+  pub step_join : (kind_number m.item.kind ≡ end_kind → ⊥) → (k w : ℕ)
+      → ((kind_number m.item.kind ≡ word_kind) × (m.item.at ≡ k) × (m.item.len ≡ w)) ⊎ Has (ahead xs v m.next) k w → Has (ahead xs v t) k w
   unfolding Has
   step_join is k w h = rw (step.goes is) h
 
@@ -107,7 +107,7 @@ abbrev pub Below : List Item → List Item → ℕ → Type 0
 Below l rest n = (k w : ℕ) → Has l k w → (k < n) ⊎ Has rest k w
 
 pub below_next : (xs : List ℕ) (m : Module) (page at k n : ℕ) (x : Item) (l : List Item) → x ≡ item_of xs m page (le 2 xs at) → 0 < k
-    → Below l (entries_from xs m page at k) n → (x.kind ≡ 2 → x.at < n) → Below l (entries_from xs m page (at + 2) (k - 1)) n
+    → Below l (entries_from xs m page at k) n → (kind_number x.kind ≡ word_kind → x.at < n) → Below l (entries_from xs m page (at + 2) (k - 1)) n
 unfolding Has
 below_next xs m page at k n x l e some below old i w h =
     elim (rw (entries_next xs m page at k x e some) at (below i w h)) [
@@ -203,7 +203,7 @@ module _ (xs : List ℕ) (v : ℕ) (s : Spot) (n : ℕ) where
       }
 
   module _ (t : Spot) (m : Move) (passed : Passed xs v s n t) (step : Stepped xs v t m) where
-    pub passed_next : (m.item.kind ≡ 0 → ⊥) → (m.item.kind ≡ 2 → m.item.at < n) → Passed xs v s n m.next
+    pub passed_next : (kind_number m.item.kind ≡ end_kind → ⊥) → (kind_number m.item.kind ≡ word_kind → m.item.at < n) → Passed xs v s n m.next
     passed_next is old =
         record {
           valid = step.valid;
@@ -216,7 +216,7 @@ module _ (xs : List ℕ) (v : ℕ) (s : Spot) (n : ℕ) where
           back = λ k w h. passed.back k w (step_join xs v t m step is k w (inr h));
         }
 
-    pub sought_end : n ≤ length xs → m.item.kind ≡ 0 → Sought xs v s n (record { spot = t; low = length xs })
+    pub sought_end : n ≤ length xs → kind_number m.item.kind ≡ end_kind → Sought xs v s n (record { spot = t; low = length xs })
     sought_end most z =
         record { passed = passed; low = λ k w h. absurd (step_none xs v t m step z k w h); onward = most; most = omega arith }
 

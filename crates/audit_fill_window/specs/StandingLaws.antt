@@ -1,7 +1,7 @@
 -- What is known of the words at hand: at the start, as the walk goes on, past a word, past a window, and where it is asked for.
 -- Assumes nothing.
 use Rattle.std.specs.Prelude.{ℕ, ◌+◌, ◌-◌, ◌≤◌, ◌<◌, List, ◌≡◌, refl, length, get_or}
-use Rattle.std.proofs.Common.{inl, inr, sym, ap, ◌∙◌, arith}
+use Rattle.std.proofs.Common.{inl, inr, sym, ◌∙◌, arith}
 use Rattle.std.proofs.Math.Decide.{ℕ_discrete, dec_lt}
 use Rattle.facts.specs.Fact.{Holds}
 use Rattle.words.specs.Le.{Bytes}

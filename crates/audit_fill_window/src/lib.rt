@@ -10,13 +10,14 @@ ghost use Rattle.inside_walk.specs.WholeWalk.{ahead, Valid};
 ghost use Rattle.inside_modules.specs.ModulesFit.{Fits};
 ghost use Rattle.inside_blocks.specs.Blocks.{entries_from};
 ghost use Rattle.audit_fill_window.specs.Near.{Has, Telling, Done, Low, Passed, Sought, Noting, Filled};
+ghost use Rattle.items.specs.Items.{word_kind, kind_number};
 
 use inside_blocks::Cursor;
 use inside_files::Place;
 use inside_pages::Page;
 use inside_rows::Module;
 use inside_walk::Spot;
-use items::Item;
+use items::{Item, Kind};
 
 // The marks tell the words that start in from..to-1. The next one stands at `at` and has `width` bytes; at `to` the window is used up. The
 // walk that fills the next window starts at `spot`.
@@ -59,27 +60,18 @@ fn is_done(m: Module, c: Cursor) -> bool
     true
 }
 
-fn lower(x: usize, y: usize) -> usize
-    ensures { (result ≤ x) × (result ≤ y) }
-{
-    if x < y {
-        return x;
-    }
-    y
-}
-
 // The next section's place, or the next file's.
 fn next_part(p: Place) -> usize
     ensures { (p.at < p.end → result ≤ p.at) × (result ≤ p.file) }
 {
     if p.at < p.end {
-        return lower(p.at, p.file);
+        return p.at.min(p.file);
     }
     p.file
 }
 
 // A place below which nothing ahead of s starts.
-fn low_of(s: Spot) -> usize
+pub fn low_of(s: Spot) -> usize
     ensures { Low s result }
 {
     let p = s.place;
@@ -89,29 +81,22 @@ fn low_of(s: Spot) -> usize
     if is_done(m, c) {
         return n;
     }
-    lower(m.lo, n)
+    m.lo.min(n)
 }
 
 // The same, from `from` on and up to `end`.
-fn start_of(s: Spot, from: usize, end: usize) -> usize
+pub fn start_of(s: Spot, from: usize, end: usize) -> usize
     requires { from ≤ end }
     ensures { (from ≤ result) × (result ≤ end) × ((result ≡ from) ⊎ Low s result) }
 {
-    let n = low_of(s);
-    if n <= from {
-        return from;
-    }
-    if end <= n {
-        return end;
-    }
-    n
+    low_of(s).clamp(from, end)
 }
 
 // Whether x is a word that is yet to come.
 fn is_new(x: Item, least: usize) -> bool
-    ensures { result ≡ false → x.kind ≡ 2 → x.at < least }
+    ensures { result ≡ false → kind_number x.kind ≡ word_kind → x.at < least }
 {
-    if x.kind != 2 {
+    if x.kind != Kind::Word {
         return false;
     }
     if x.at < least {
@@ -126,15 +111,11 @@ fn any_new(image: &[u8], m: Module, page: usize, at: usize, k: usize, least: usi
     ensures { result ≡ false → (i w : ℕ) → Has (entries_from image.now m page at k) i w → i < least }
 {
     let q = inside_pages::page_of(image, m, page);
-    let mut p = at;
-    let mut left = k;
-    while left > 0 {
-        let x = inside_blocks::entry_on(image, m, q, p);
+    for i in 0..k {
+        let x = inside_blocks::entry_on(image, m, q, at + 2 * i);
         if is_new(x, least) {
             return true;
         }
-        p += 2;
-        left -= 1;
     }
     false
 }
@@ -150,7 +131,7 @@ pub fn seek(image: &[u8], v: usize, s: Spot, from: usize) -> Found
         let t = inside_walk::step(image, v, spot);
         let x = t.item;
         let next = t.next;
-        if x.kind == 0 {
+        if x.kind == Kind::End {
             return Found {
                 spot,
                 low: image.len(),
@@ -174,17 +155,8 @@ pub fn seek(image: &[u8], v: usize, s: Spot, from: usize) -> Found
     }
 }
 
-fn either(a: bool, b: bool) -> bool
-    ensures { result ≡ false → (a ≡ false) × (b ≡ false) }
-{
-    if a {
-        return true;
-    }
-    b
-}
-
 // Whether each word that an entry of the page can name lies in its room, as in the middle of its data.
-fn is_whole(q: Page) -> bool
+pub fn is_whole(q: Page) -> bool
     ensures { Tells result (q.floor ≤? 0 and 4104 ≤? q.room) }
 {
     if q.floor != 0 {
@@ -215,15 +187,11 @@ fn mark_each(
     ensures i_bound { result ≡ false → (i w : ℕ) → Has (entries_from image.now m q.page at k) i w → i < from + n }
 {
     let to = from + n;
-    let mut e = at;
-    let mut left = k;
     let mut late = false;
-    while left > 0 {
-        let x = inside_blocks::entry_on(image, m, q, e);
-        late = either(late, is_new(x, to));
+    for i in 0..k {
+        let x = inside_blocks::entry_on(image, m, q, at + 2 * i);
+        late |= is_new(x, to);
         audit_marks::mark(marks, from, n, x);
-        e += 2;
-        left -= 1;
     }
     late
 }
@@ -288,7 +256,7 @@ pub fn fill(image: &[u8], v: usize, s: Spot, from: usize, n: usize, marks: &mut 
         let t = inside_walk::step(image, v, spot);
         let x = t.item;
         let next = t.next;
-        if x.kind == 0 {
+        if x.kind == Kind::End {
             return kept;
         }
         let first = is_new(x, to);
@@ -298,7 +266,7 @@ pub fn fill(image: &[u8], v: usize, s: Spot, from: usize, n: usize, marks: &mut 
         let c = next.c;
         let others = mark_entries(image, m, c.page, c.at, k, from, n, marks);
         spot = inside_walk::past(next, k);
-        late = either(late, either(first, others));
+        late |= first | others;
         kept = follow(late, kept, spot);
     }
 }

@@ -1,54 +1,18 @@
 -- What the listing walk keeps, and that a step of it lists what it passes.
 -- Assumes nothing.
-use Rattle.std.specs.Prelude.{◌≡◌, refl, true, false, ℕ, ◌+◌, ◌-◌, ◌*◌, ◌≤◌, ◌<◌, set}
+use Rattle.std.specs.Prelude.{◌≡◌, refl, ℕ, ◌+◌, ◌-◌, ◌<◌, ◌≤◌, get_or}
 use Rattle.std.proofs.Math.Path.{sym}
-use Rattle.std.proofs.Common.{◌∙◌, add-one, length-set}
+use Rattle.std.proofs.Common.{◌∙◌}
 use mathlib.Core.List.{List, [], ◌∷◌}
 use native.Mathlib.Omega.{arith}
 use Rattle.std.proofs.Math.ListN.{length}
-use Rattle.std.proofs.lemmas.List.Edits.{sets}
-use Rattle.words.specs.Put.{put, put_all}
-use Rattle.words.specs.PutLaws.{length_put}
+use Rattle.audit_places.specs.Writing.{Writing}
 use Rattle.answers.specs.declared.Reading.{Reading}
 use Rattle.audit_tables.specs.declared.Ahead.{Ahead}
-use Rattle.audit_step.specs.declared.Step.{Step}
 use Rattle.audit_list.specs.declared.Fill.{Fill}
 use Rattle.audit_count.specs.Differences.{differences, entry, entries}
-use Rattle.audit_step.specs.Stride.{Stepped}
+use Rattle.audit_step.specs.Stride.{Alike}
 use Rattle.audit_count.specs.DifferenceLaws.{rest, rest_over, rest_hit, rest_none}
-
--- how numbers are written in a list of places: one at a place, and those of a list from a place on
-pub record Writing : Type 0 where
-  pub one : List ℕ → ℕ → ℕ → List ℕ
-  pub all : List ℕ → ℕ → List ℕ → List ℕ
-  pub more : (l : List ℕ) (i v : ℕ) (vs : List ℕ) → all l i (v ∷ vs) ≡ all (one l i v) (i + 1) vs
-  pub long : (l : List ℕ) (i v : ℕ) → length (one l i v) ≡ length l
-  pub none : (l : List ℕ) (i : ℕ) → all l i [] ≡ l
-
--- a place is an element, or four bytes
-pub more_words : (l : List ℕ) (i v : ℕ) (vs : List ℕ) → sets l i (v ∷ vs) ≡ sets (set l i v) (i + 1) vs
-more_words l i v vs = rw add-one
-
-pub more_bytes : (l : List ℕ) (i v : ℕ) (vs : List ℕ) → put_all 4 l (4 * i) (v ∷ vs) ≡ put_all 4 (put 4 l (4 * i) v) (4 * (i + 1)) vs
-unfolding put_all
-more_bytes l i v vs = let e : 4 * (i + 1) ≡ 4 * i + 4 = omega arith in rw e
-
-pub none_bytes : (l : List ℕ) (i : ℕ) → put_all 4 l (4 * i) [] ≡ l
-unfolding put_all
-none_bytes l i = refl
-
-abbrev pub in_words : Writing
-in_words = record { one = set; all = sets; more = more_words; long = length-set; none = λ l i. refl }
-
-abbrev pub in_bytes : Writing
-in_bytes =
-    record {
-      one = λ l i v. put 4 l (4 * i) v;
-      all = λ l i vs. put_all 4 l (4 * i) vs;
-      more = more_bytes;
-      long = λ l i v. length_put 4 l (4 * i) v;
-      none = none_bytes;
-    }
 
 -- what is left has room
 abbrev pub Room : List ℕ → List ℕ → ℕ → Fill → Type 0
@@ -59,48 +23,52 @@ abbrev pub went_to : Fill → ℕ → Ahead → Fill
 went_to f k ahead = record { at = k; ahead = ahead; count = f.count }
 
 -- u is f after some steps, l the list before and m after them: filled and left together are what they were
-pub record Filled (w : Writing) (ref ys : List ℕ) (r : Reading) (l m : List ℕ) (f u : Fill) : Type 0 where
+pub record Filled {A : Type 0} (w : Writing A) (ref ys : List ℕ) (r : Reading) (l m : List A) (f u : Fill) : Type 0 where
   pub onward : f.at ≤ u.at
   pub most : u.at ≤ length ys
   pub long : length m ≡ length l
   pub room : u.count + length (rest ref ys u.at) ≡ f.count + length (rest ref ys f.at)
   pub kept : w.all m u.count (entries r (rest ref ys u.at)) ≡ w.all l f.count (entries r (rest ref ys f.at))
 
-module _ (w : Writing) (ref ys : List ℕ) (r : Reading) (l : List ℕ) (f : Fill) (s : Step) (stepped : Stepped ref ys f.at s)
+module _ {A : Type 0} (w : Writing A) (ref ys : List ℕ) (r : Reading) (l : List A) (f : Fill) (k : ℕ) (alike : Alike ref ys f.at k)
     (q : Ahead) where
-  left : rest ref ys f.at ≡ rest ref ys s.at
-  left = rest_over ref ys f.at s.at stepped.onward stepped.most stepped.clear
+  left : rest ref ys f.at ≡ rest ref ys k
+  left = rest_over ref ys f.at k alike.onward alike.most alike.clear
 
-  -- a hit is the first of what is left
-  pub hit_first : s.hit ≡ true → rest ref ys f.at ≡ s.at ∷ rest ref ys (s.at + 1)
-  hit_first hit = let h = stepped.found hit in left ∙ rest_hit ref ys s.at h.0 h.1
+  -- at a difference, which is the first of what is left
+  module _ (less : k < length ys) (differs : get_or ys k 0 ≡ get_or ref k 0 → ⊥) where
+    first : rest ref ys f.at ≡ k ∷ rest ref ys (k + 1)
+    first = left ∙ rest_hit ref ys k less differs
 
-  pub fill_hit : s.hit ≡ true
-      → Filled w ref ys r l (w.one l f.count (entry r s.at)) f (record { at = s.at + 1; ahead = q; count = f.count + 1 })
-  unfolding entries
-  fill_hit hit =
-      let e = hit_first hit in
-      let h = stepped.found hit in
-      record {
-        onward = omega (arith, stepped.onward);
-        most = omega (arith, h.0);
-        long = w.long l f.count (entry r s.at);
-        room = rw e (omega arith);
-        kept = rw e (sym (w.more l f.count (entry r s.at) (entries r (rest ref ys (s.at + 1)))));
-      }
+    -- there is a place for it
+    pub place : (room : ℕ) → Room ref ys room f → f.count + 1 ≤ room
+    place room h =
+        let some : f.count + length (k ∷ rest ref ys (k + 1)) ≤ room = rw first at h in
+        omega (arith, some)
 
-  pub fill_on : s.hit ≡ false → Filled w ref ys r l l f (went_to f s.at q)
-  fill_on pass =
-      record { onward = stepped.onward; most = stepped.most; long = refl; room = rw left; kept = rw left }
+    pub fill_hit : Filled w ref ys r l (w.one l f.count (entry r k)) f (record { at = k + 1; ahead = q; count = f.count + 1 })
+    unfolding entries
+    fill_hit =
+        record {
+          onward = omega (arith, alike.onward);
+          most = omega (arith, less);
+          long = w.long l f.count (entry r k);
+          room = rw first (omega arith);
+          kept = rw first (sym (w.more l f.count (entry r k) (entries r (rest ref ys (k + 1)))));
+        }
+
+  -- past bytes that are the reference's
+  pub fill_on : Filled w ref ys r l l f (went_to f k q)
+  fill_on = record { onward = alike.onward; most = alike.most; long = refl; room = rw left; kept = rw left }
 
 -- ---- from the start of the walk to its end
 
-module _ (w : Writing) (ref ys : List ℕ) (r : Reading) where
-  pub filled_none : (l : List ℕ) (f : Fill) → f.at ≤ length ys → Filled w ref ys r l l f f
+module _ {A : Type 0} (w : Writing A) (ref ys : List ℕ) (r : Reading) where
+  pub filled_none : (l : List A) (f : Fill) → f.at ≤ length ys → Filled w ref ys r l l f f
   filled_none l f h = record { onward = omega arith; most = h; long = refl; room = refl; kept = refl }
 
   -- steps after steps
-  pub filled_join : (l m k : List ℕ) (f u v : Fill) → Filled w ref ys r l m f u → Filled w ref ys r m k u v → Filled w ref ys r l k f v
+  pub filled_join : (l m k : List A) (f u v : Fill) → Filled w ref ys r l m f u → Filled w ref ys r m k u v → Filled w ref ys r l k f v
   filled_join l m k f u v a b =
       record {
         onward = omega (arith, a.onward, b.onward);
@@ -111,11 +79,11 @@ module _ (w : Writing) (ref ys : List ℕ) (r : Reading) where
       }
 
   -- there is still room
-  pub room_on : (l m : List ℕ) (f u : Fill) (room : ℕ) → Filled w ref ys r l m f u → Room ref ys room f → Room ref ys room u
+  pub room_on : (l m : List A) (f u : Fill) (room : ℕ) → Filled w ref ys r l m f u → Room ref ys room f → Room ref ys room u
   room_on l m f u room a h = omega (arith, a.room, h)
 
   -- at the end all are listed
-  pub filled_all : (l m : List ℕ) (q : Ahead) (u : Fill) → Filled w ref ys r l m (record { at = 0; ahead = q; count = 0 }) u
+  pub filled_all : (l m : List A) (q : Ahead) (u : Fill) → Filled w ref ys r l m (record { at = 0; ahead = q; count = 0 }) u
       → length ys ≤ u.at → m ≡ w.all l 0 (entries r (differences ref ys 0 (length ys)))
   unfolding entries
   filled_all l m q u a h =

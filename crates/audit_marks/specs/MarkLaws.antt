@@ -1,20 +1,12 @@
 -- Marks, one place at a time.
 -- Assumes nothing.
 use Rattle.std.specs.Prelude.{ℕ, zero, suc, ◌+◌, ◌-◌, ◌^◌, ◌≤◌, ◌<◌, List, ◌≡◌, refl, length, get_or, set}
-use Rattle.std.proofs.Common.{sym, ◌∙◌, arith, pow-suc, mul-pos, mul-zero, length-set, get_or-set_same, get_or-set_other}
+use Rattle.std.proofs.Common.{arith, pow-suc, mul-pos, mul-zero, length-set, get_or-set_same, get_or-set_other}
 use Rattle.std.proofs.Math.Decide.{ℕ_discrete, dec_lt}
 use Rattle.words.specs.Le.{le}
 use Rattle.items.specs.declared.Item.{Item}
 use Rattle.audit_marks.specs.Marks.{Marked, Clear, First}
-
--- one place more is cleared
-pub cleared_more : (ms : List ℕ) (i : ℕ) → i < length ms → ((k : ℕ) → k < i → get_or ms k 0 ≡ 0)
-    → (k : ℕ) → k < i + 1 → get_or (set ms i 0) k 0 ≡ 0
-cleared_more ms i h clear k l =
-    elim (ℕ_discrete k i) [
-      | yes e ↦ rw e (get_or-set_same ms i 0 0 h)
-      | no e ↦ get_or-set_other ms i k 0 0 e ∙ clear k (omega arith)
-    ]
+use Rattle.items.specs.Items.{kind_number, word_kind}
 
 -- one place more has no mark
 pub clear_more : (ms : List ℕ) (i j : ℕ) → Clear ms i j → get_or ms j 0 ≡ 0 → Clear ms i (j + 1)
@@ -48,20 +40,24 @@ le_zero zero xs at z = refl
 le_zero (suc k) xs at z = rw (z k (omega arith), le_zero k xs at (λ j h. z j (omega arith)), mul-zero)
 
 -- past places without a mark, eight of which one has
-pub first_on : (ms : List ℕ) (i n k j : ℕ) → i ≤ k → k + 8 ≤ n → Clear ms i k → (le 8 ms k ≡ 0 → ⊥) → First ms k (k + 8) j → First ms i n j
+pub first_on : (ms : List ℕ) (i n k j : ℕ) → i ≤ k → k + 8 ≤ n → Clear ms i k → (le 8 ms k ≡ 0 → ⊥) → First ms k (k + 8) j
+    → First ms i n j × (j < n)
 first_on ms i n k j h l clear some f =
-    record {
-      onward = omega (arith, f.onward);
-      most = omega (arith, f.most);
-      clear = λ p a b. elim (dec_lt p k) [ yes g ↦ clear p a g | no g ↦ f.clear p (omega arith) b ];
-      here = λ g. elim (dec_lt j (k + 8)) [
-        | yes b ↦ f.here b
-        | no b ↦ absurd (some (le_zero 8 ms k (λ p a. f.clear (k + p) (omega arith) (omega arith))))
-      ];
-    }
+    elim (dec_lt j (k + 8)) [
+      | yes b ↦ (
+        record {
+          onward = omega (arith, f.onward);
+          most = omega (arith, f.most);
+          clear = λ p a c. elim (dec_lt p k) [ yes g ↦ clear p a g | no g ↦ f.clear p (omega arith) c ];
+          here = λ g. f.here b;
+        },
+        omega arith,
+      )
+      | no b ↦ absurd (some (le_zero 8 ms k (λ p a. f.clear (k + p) (omega arith) (omega arith))))
+    ]
 
 -- the mark of a word that starts i places after `from`
-pub marked_set : (ms : List ℕ) (from n : ℕ) (x : Item) (i : ℕ) → i < length ms → x.kind ≡ 2 → x.at ≡ from + i
+pub marked_set : (ms : List ℕ) (from n : ℕ) (x : Item) (i : ℕ) → i < length ms → kind_number x.kind ≡ word_kind → x.at ≡ from + i
     → Marked ms from n x (set ms i x.len)
 marked_set ms from n x i h two e =
     record {

@@ -3,28 +3,25 @@
 
 ghost use Rattle.std.specs.Prelude.{◌≡◌, ℕ, ◌+◌, ◌≤◌, ◌<◌, length, get_or};
 ghost use Rattle.words.specs.Le.{le};
-ghost use Rattle.audit_marks.specs.Marks.{Marked, Clear, First};
+ghost use Rattle.audit_marks.specs.Marks.{Marked, Clear, First, FirstMark};
+ghost use Rattle.items.specs.Items.{word_kind, kind_number};
 
-use items::Item;
+use items::{Item, Kind};
 
 // No mark in the first n places.
 pub fn clear(marks: &mut [u8], n: usize)
     requires { n ≤ length marks.old }
     ensures { (length marks.new ≡ length marks.old) × ((i : ℕ) → i < n → get_or marks.new i 0 ≡ 0) }
 {
-    let mut i = 0;
-    while i < n {
-        marks[i] = 0;
-        i += 1;
-    }
+    marks[..n].fill(0);
 }
 
 // A word that starts in the n places from `from` on is marked with the count of its bytes.
 pub fn mark(marks: &mut [u8], from: usize, n: usize, x: Item)
-    requires { (n ≤ length marks.old) × (x.kind ≡ 2 → x.len < 256) }
+    requires { (n ≤ length marks.old) × (kind_number x.kind ≡ word_kind → x.len < 256) }
     ensures { Marked marks.old from n x marks.new }
 {
-    if x.kind != 2 {
+    if x.kind != Kind::Word {
         return;
     }
     if x.at < from {
@@ -43,6 +40,7 @@ fn skip_eights(marks: &[u8], i: usize, n: usize) -> usize
     ensures lower_bound { (i ≤ result) × (result ≤ n) × Clear marks.now i result }
     ensures fact { result + 8 ≤ n → le 8 marks.now result ≡ 0 → ⊥ }
 {
+    // No `step_by`: where fewer than eight places are left it would still hand out one.
     let mut k = i;
     while n - k >= 8 {
         if words::le64(marks, k) != 0 {
@@ -62,22 +60,21 @@ fn first_of_eight(marks: &[u8], k: usize) -> usize
     k + (u64::trailing_zeros(x) / 8) as usize
 }
 
-// The first mark from i on, or n.
-pub fn first_mark(marks: &[u8], i: usize, n: usize) -> usize
+// The first mark from i on in the first n places.
+pub fn first_mark(marks: &[u8], i: usize, n: usize) -> Option<usize>
     requires { (i ≤ n) × (n ≤ length marks.now) }
-    ensures { First marks.now i n result }
+    ensures { FirstMark marks.now i n result }
 {
-    let mut k = skip_eights(marks, i, n);
-    if n - k >= 8 {
-        return first_of_eight(marks, k);
+    let j = skip_eights(marks, i, n);
+    if n - j >= 8 {
+        return Some(first_of_eight(marks, j));
     }
-    while k < n {
+    for k in j..n {
         if marks[k] != 0 {
-            return k;
+            return Some(k);
         }
-        k += 1;
     }
-    k
+    None
 }
 
 // The mark at i, as a count of bytes.

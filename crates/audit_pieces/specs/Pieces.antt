@@ -1,6 +1,6 @@
 -- The reference, piece by piece.
 -- Assumes nothing.
-use Rattle.std.specs.Prelude.{ℕ, suc, ◌+◌, ◌-◌, ◌≤◌, ◌<◌, List, ◌⊎◌, ◌≡◌, length, get_or}
+use Rattle.std.specs.Prelude.{ℕ, ◌+◌, ◌-◌, ◌≤◌, ◌<◌, List, ◌⊎◌, ◌≡◌, length, get_or}
 use Rattle.words.specs.Le.{le}
 use Rattle.words.specs.Put.{digit}
 use Rattle.moves.specs.Moves.{moved}
@@ -13,7 +13,7 @@ use Rattle.reading_rules.specs.Words.{words_of}
 use Rattle.move_modules.specs.Relocate.{shift}
 use Rattle.move_image.specs.Fixed.{fixed_at}
 use Rattle.audit_lay.specs.Lay.{In}
-use Rattle.audit_window.specs.Window.{Has}
+use Rattle.audit_fill_window.specs.Near.{Has}
 use Rattle.audit_pieces.specs.declared.Piece.{Piece}
 
 -- the vendor image with `four` added to each word of 4 bytes and `eight` to each of 8

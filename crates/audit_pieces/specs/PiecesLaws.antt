@@ -1,7 +1,8 @@
 -- What a piece has is the reference.
 -- Assumes nothing.
-use Rattle.std.specs.Prelude.{◌≡◌, refl, List, [], ◌⊎◌, ℕ, suc, ◌+◌, ◌-◌, ◌%◌, ◌^◌, ◌≤◌, ◌<◌, length, get_or}
-use Rattle.std.proofs.Common.{sym, ap, ◌∙◌, inl, inr, arith, length-append, get_or-append-add}
+use Rattle.std.specs.Prelude.{◌≡◌, refl, List, ◌++◌, ◌⊎◌, ℕ, suc, ◌+◌, ◌-◌, ◌%◌, ◌^◌, ◌≤◌, ◌<◌, min, max, length, get_or, drop, slice_range}
+use Rattle.std.proofs.Common.{sym, ap, ◌∙◌, inl, inr, arith, length-append, get_or-take, get_or-drop, get_or-append-add}
+use Rattle.std.proofs.Math.ListN.{get_or-append}
 use Rattle.std.proofs.Math.Decide.{ℕ_discrete, dec_lt}
 use Rattle.std.proofs.Math.Nat.{mod-mod}
 use Rattle.facts.specs.Fact.{Holds}
@@ -11,7 +12,7 @@ use Rattle.words.specs.PutLaws.{le_put, put_in, bytes_put, le_one}
 use Rattle.moves.specs.Moves.{moved_to, Beside}
 use Rattle.moves.specs.MovesLaws.{bytes_moved, moved_beside, moved_word, find}
 use Rattle.items.specs.declared.Item.{Item}
-use Rattle.items.specs.Items.{word, skip, words_in, nth, each, inside, apart_from}
+use Rattle.items.specs.Items.{word, skip, words_in, nth, each, inside}
 use Rattle.inside_judge.specs.Rules.{patch_items}
 use Rattle.inside_walk.specs.declared.Spot.{Spot}
 use Rattle.inside_walk.specs.WholeWalk.{ahead, first_spot, Valid}
@@ -32,8 +33,10 @@ use Rattle.piece_stretch.specs.Stretch.{after}
 use Rattle.piece_stretch.specs.StretchLaws.{get_d_after}
 use Rattle.audit_lay.specs.Lay.{In, value, ItemLaid}
 use Rattle.audit_window.specs.declared.Found.{Found}
-use Rattle.audit_window.specs.Window.{Has, Apart, Fitting, Passed, Sought, Drawn}
-use Rattle.audit_window.specs.WindowLaws.{has_nth, nth_has, has_inside, apart_all, apart_some, passed_start}
+use Rattle.audit_fill_window.specs.Near.{Has}
+use Rattle.audit_window.specs.Window.{Apart, Fitting, Passed, Sought, Drawn}
+use Rattle.audit_fill_window.specs.NearLaws.{has_nth, nth_has}
+use Rattle.audit_window.specs.WindowLaws.{has_inside, apart_all, apart_some, passed_start}
 use Rattle.audit_pieces.specs.declared.Piece.{Piece}
 use Rattle.audit_pieces.specs.Pieces.{by, walk, FixedLaid, Past, Standing, Onward}
 
@@ -244,6 +247,40 @@ module _ (xs : List ℕ) (r : Reading) (g : Guaranteed xs r) where
             past = past;
           }
 
+      -- the piece that is made so: its window holds n bytes, and the rest of what it is laid into is left
+      pub piece : Bytes xs → (from n : ℕ) → from ≡ max (min u.low k) p.to → p.to < length xs → n ≤ length xs - from
+          → (from < length xs → 0 < n) → (base mid ms rest : List ℕ) → base ≡ slice_range xs from (from + n)
+          → FixedLaid xs r (value xs four eight) from n (suc r.n) base mid
+          → Drawn (value xs four eight) (ahead xs (le 8 xs 32) u.spot) from n mid ms → length ms ≡ n → (low : ℕ) (spot : Spot)
+          → Passed xs (le 8 xs 32) u.spot (from + n) spot → low ≤ length xs
+          → Past xs (le 8 xs 32) (record { from = from; to = from + n; low = low; spot = spot })
+          → Onward xs r four eight p (record { from = from; to = from + n; low = low; spot = spot }) (ms ++ rest)
+      piece bytes from n starts less few some base mid ms rest is laid drawn long low spot on low_most past =
+          record {
+            low = omega arith;
+            high = omega arith;
+            more = comes;
+            size = omega (arith, long, length-append ms rest);
+            plain = λ i l h. plain_here from i l h (omega arith) (omega arith);
+            held = λ i l h.
+                let there : from + (i - from) ≡ i = omega arith in
+                rw there at
+                (held_here bytes from n (omega arith) base mid ms copied laid drawn (i - from) (omega arith))
+                ∙ sym (get_or-append ms rest 0 (i - from) (omega (arith, long)));
+            stands = stands_on _ within_it (omega (arith, comes)) on low_most past;
+          }
+        where
+          comes : p.to < from + n
+          comes = elim (dec_lt from (length xs)) [ yes h ↦ omega (arith, some h) | no h ↦ omega arith ]
+
+          within_it : from + n ≤ length xs
+          within_it = omega (arith, sought.most, less)
+
+          copied : (i : ℕ) → i < n → get_or base i 0 ≡ get_or xs (from + i) 0
+          copied i h =
+              let e : from + n - from ≡ n = omega arith in
+              rw (is, e) (get_or-take n (drop from xs) i 0 h ∙ get_or-drop from xs i 0)
+
 -- the search's answer where it is known
 pub sought_known : (xs : List ℕ) (v : ℕ) (p : Piece) → Valid xs v p.spot → p.to < p.low → p.low ≤ length xs → Past xs v p
     → Sought xs v p.spot p.to (record { spot = p.spot; low = p.low })
@@ -259,11 +296,6 @@ drawn_none value l from n ms size off =
       word = λ k w i h g a. absurd (omega (arith, off k w g, a.0));
       other = λ i h none. refl;
     }
-
--- a window that isn't empty brings the walk on
-pub grows : (before from to end : ℕ) → before ≤ from → before < end → from ≤ to → (from < end → from < to) → from ≤ end → before < to
-grows before from to end up some low more most =
-    elim (dec_lt from end) [ yes h ↦ omega (arith, more h) | no h ↦ omega arith ]
 
 -- ---- what stands in for the reference in a piece's two parts
 

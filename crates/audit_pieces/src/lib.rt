@@ -14,10 +14,12 @@ ghost use Rattle.audit_pieces.specs.Pieces.{FixedLaid, Past, Standing, Onward};
 use answers::Reading;
 use audit_window::Found;
 use inside_walk::Spot;
-use items::Item;
+use items::{Item, Kind};
+use moves::Shift;
 
 // The positions from the last piece's end up to `from` are the vendor's own; those from there up to `to` stand in the window. The walk over the
-// modules goes on at `spot`; where `low` is past `to`, no word that is ahead of it starts below `low`.
+// modules goes on at `spot`; where `low` is past `to`, no word that is ahead of it starts below `low`. A number as in `Found`, which is compared
+// with `to` where it is known too.
 #[derive(Clone, Copy)]
 pub struct Piece {
     pub from: usize,
@@ -39,24 +41,6 @@ pub fn start(image: &[u8], r: Reading) -> Piece
     }
 }
 
-fn lower(x: usize, y: usize) -> usize
-    ensures { (result ≤ x) × (result ≤ y) × ((result ≡ x) ⊎ (result ≡ y)) }
-{
-    if x < y {
-        return x;
-    }
-    y
-}
-
-fn upper(x: usize, y: usize) -> usize
-    ensures { (x ≤ result) × ((result ≡ x) ⊎ (result ≡ y)) }
-{
-    if x < y {
-        return y;
-    }
-    x
-}
-
 // Of k and the word of 4 bytes at p the nearer, unless that word ends by `at`.
 fn nearer(k: usize, p: usize, at: usize) -> usize
     requires { p ≤ 16777216 }
@@ -65,10 +49,7 @@ fn nearer(k: usize, p: usize, at: usize) -> usize
     if p + 4 <= at {
         return k;
     }
-    if p < k {
-        return p;
-    }
-    k
+    k.min(p)
 }
 
 // Up to where no word that the tables name, and that ends past `at`, starts.
@@ -78,63 +59,27 @@ fn first_fixed(image: &[u8], r: Reading, at: usize) -> usize
         × ((j : ℕ) → j < suc r.n → (fixed_at image.now r j + 4 ≤ at) ⊎ (result ≤ fixed_at image.now r j)) }
 {
     let mut k = image.len();
-    let mut i = 0;
-    while i <= r.n {
+    for i in 0..r.n + 1 {
         let p = move_image::word_place(image, r, i);
         k = nearer(k, p, at);
-        i += 1;
     }
     k
 }
 
-// The image's own n bytes from position `from` on.
-fn copy(image: &[u8], window: &mut [u8], from: usize, n: usize)
-    requires { (from + n ≤ length image.now) × (n ≤ length window.old) }
-    ensures window_len_unchanged { length window.new ≡ length window.old }
-    ensures by_index { (i : ℕ) → i < n → get_or window.new i 0 ≡ get_or image.now (from + i) 0 }
+// The words that the tables name laid into the window, which stands for the positions from `from` on.
+fn lay_fixed(image: &[u8], r: Reading, d: Shift, window: &mut [u8], from: usize)
+    requires { Guaranteed image.now r × (from + length window.old ≤ 16777216) }
+    ensures { FixedLaid image.now r (value image.now d.four d.eight) from (length window.old) (suc r.n) window.old window.new }
 {
-    let mut i = 0;
-    while i < n {
-        window[i] = image[from + i];
-        i += 1;
-    }
-}
-
-// The words that the tables name laid into them.
-fn lay_fixed(
-    image: &[u8],
-    r: Reading,
-    four: u32,
-    eight: u64,
-    window: &mut [u8],
-    from: usize,
-    n: usize,
-)
-    requires { Guaranteed image.now r × (n ≤ length window.old) × (from + n ≤ 16777216) }
-    ensures { FixedLaid image.now r (value image.now four eight) from n (suc r.n) window.old window.new }
-{
-    let mut i = 0;
-    while i <= r.n {
+    for i in 0..r.n + 1 {
         let at = move_image::word_place(image, r, i);
         let x = Item {
-            kind: items::WORD,
+            kind: Kind::Word,
             at,
             len: 4,
         };
-        audit_lay::lay_item(image, x, four, eight, window, from, n);
-        i += 1;
+        audit_lay::lay_item(image, x, d, window, from);
     }
-}
-
-// Where a stretch of at most `size` positions from `from` on ends.
-fn end_of(from: usize, size: usize, end: usize) -> usize
-    requires { from ≤ end }
-    ensures { (from ≤ result) × (result ≤ end) × (result - from ≤ size) × (0 < size → from < end → from < result) }
-{
-    if end - from <= size {
-        return end;
-    }
-    from + size
 }
 
 // Where the next window's walk starts: it is looked for unless it is known.
@@ -168,28 +113,20 @@ fn size_of(n: usize, from: usize, low: usize, size: usize) -> usize
 }
 
 // The piece after p; v is the volume's length.
-pub fn next(
-    image: &[u8],
-    v: usize,
-    r: Reading,
-    four: u32,
-    eight: u64,
-    window: &mut [u8],
-    p: Piece,
-) -> Piece
+pub fn next(image: &[u8], v: usize, r: Reading, d: Shift, window: &mut [u8], p: Piece) -> Piece
     requires { Guaranteed image.now r × (v ≡ le 8 image.now 32) × Standing image.now r p × (p.to < length image.now)
         × (0 < length window.old) }
-    ensures onward { Onward image.now r four eight p result window.new }
+    ensures onward { Onward image.now r d.four d.eight p result window.new }
     ensures window_len_unchanged { length window.new ≡ length window.old }
 {
     let u = found(image, v, p);
     let k = first_fixed(image, r, p.to);
-    let from = upper(p.to, lower(u.low, k));
-    let size = size_of(r.n, from, u.low, window.len());
-    let to = end_of(from, size, image.len());
-    let n = to - from;
-    copy(image, window, from, n);
-    lay_fixed(image, r, four, eight, window, from, n);
+    let from = u.low.min(k).max(p.to);
+    let n = size_of(r.n, from, u.low, window.len()).min(image.len() - from);
+    let to = from + n;
+    let part = &mut window[..n];
+    part.copy_from_slice(&image[from..to]);
+    lay_fixed(image, r, d, part, from);
     if to <= u.low {
         let low = u.low;
         let ahead = u.spot;
@@ -200,7 +137,7 @@ pub fn next(
             spot: ahead,
         };
     }
-    let spot = audit_window::fill(image, v, u.spot, four, eight, window, from, n);
+    let spot = audit_window::fill(image, v, u.spot, d, part, from);
     Piece {
         from,
         to,

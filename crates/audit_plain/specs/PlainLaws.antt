@@ -1,6 +1,6 @@
 -- What the loops over the differences of two files keep; and where nothing is a setting, counts and entries are those of strays alone.
 -- Assumes nothing.
-use Rattle.std.specs.Prelude.{◌≡◌, ℕ, suc, ◌+◌, ◌-◌, ◌≤◌, ◌<◌, length, get_or}
+use Rattle.std.specs.Prelude.{◌≡◌, ℕ, ◌+◌, ◌-◌, ◌≤◌, ◌<◌, length, get_or}
 use Rattle.std.proofs.Math.Path.{refl, sym}
 use Rattle.std.proofs.Common.{ap, ◌∙◌, arith}
 use mathlib.Core.List.{List, [], ◌∷◌}
@@ -8,109 +8,77 @@ use Rattle.facts.specs.Fact.{Holds}
 use Rattle.facts.specs.FactLaws.{fails}
 use Rattle.answers.specs.declared.Reading.{Reading}
 use Rattle.audit_stretch.specs.Stretch.{SameBytes, Until}
-use Rattle.audit_count.specs.declared.Counts.{Counts}
 use Rattle.audit_count.specs.Differences.{differences, setting, entry, settings, strays, bits, entries, counts_of}
 use Rattle.audit_count.specs.DifferenceLaws.{rest, rest_over, rest_hit, rest_none}
-use Rattle.audit_list.specs.Filling.{Writing}
+use Rattle.audit_places.specs.Writing.{Writing}
 use Rattle.audit_plain.specs.Plain.{strayed}
-
--- ---- nothing before `from`, and from there on agreement up to k
-
-pub until_here : (a b : List ℕ) (to : ℕ) → Until a b to to to
-until_here a b to =
-    record {
-      onward = omega arith;
-      most = omega arith;
-      clear = λ i h l. absurd (omega arith);
-      found = λ h. absurd (omega arith);
-    }
-
-pub until_at : (a b : List ℕ) (from to : ℕ) → from ≤ to → (get_or b from 0 ≡ get_or a from 0 → ⊥) → Until a b from to from
-until_at a b from to h differs =
-    record { onward = omega arith; most = h; clear = λ i g l. absurd (omega arith); found = λ l. differs }
 
 -- ---- the loops
 
 module _ (a b : List ℕ) where
-  -- n are passed before `at`, where the next one stands, and those and what is left are all
-  pub record Counting (n at : ℕ) : Type 0 where
-    pub most : at ≤ length b
-    pub hit : at < length b → get_or b at 0 ≡ get_or a at 0 → ⊥
-    pub few : n ≤ at
-    pub all : n + length (rest a b at) ≡ length (differences a b 0 (length b))
-
-  went : (from k : ℕ) → Until a b from (length b) k → rest a b from ≡ rest a b k
-  went from k u = rest_over a b from k u.onward u.most u.clear
+  -- n are passed before k, and those and what is left are all
+  pub record Counting (n k : ℕ) : Type 0 where
+    pub most : k ≤ length b
+    pub few : n ≤ k
+    pub all : n + length (rest a b k) ≡ length (differences a b 0 (length b))
 
   from_start : rest a b 0 ≡ differences a b 0 (length b)
   from_start = let e : length b - 0 ≡ length b = omega arith in rw e
 
-  pub first : (n at : ℕ) → Counting n at → at < length b → rest a b at ≡ at ∷ rest a b (at + 1)
-  first n at c h = rest_hit a b at h (c.hit h)
+  -- none is left
+  past : (k : ℕ) → k ≤ length b → SameBytes a b k (length b) → rest a b k ≡ []
+  past k h same = rest_over a b k (length b) h (omega arith) same ∙ rest_none a b (length b) (omega arith)
 
-  pub counting_start : (k : ℕ) → Until a b 0 (length b) k → Counting 0 k
-  counting_start k u =
-      record {
-        most = u.most;
-        hit = u.found;
-        few = omega arith;
-        all = rw (← went 0 k u, from_start) (omega arith);
-      }
+  pub counting_start : Counting 0 0
+  counting_start = record { most = omega arith; few = omega arith; all = rw from_start (omega arith) }
 
-  pub counting_on : (n at k : ℕ) → Counting n at → at < length b → Until a b (at + 1) (length b) k → Counting (n + 1) k
-  counting_on n at k c h u =
-      let left : n + length (at ∷ rest a b (at + 1)) ≡ length (differences a b 0 (length b)) = rw (first n at c h) at c.all in
-      record {
-        most = u.most;
-        hit = u.found;
-        few = omega (arith, c.few, u.onward);
-        all = rw (← went (at + 1) k u) (omega (arith, left));
-      }
-
-  pub counting_end : (n at : ℕ) → Counting n at → length b ≤ at → n ≡ length (differences a b 0 (length b))
-  counting_end n at c h =
-      let left : n + length {A = ℕ} [] ≡ length (differences a b 0 (length b)) = rw (rest_none a b at h) at c.all in
+  pub counting_end : (n k : ℕ) → Counting n k → SameBytes a b k (length b) → n ≡ length (differences a b 0 (length b))
+  counting_end n k c same =
+      let left : n + length {A = ℕ} [] ≡ length (differences a b 0 (length b)) = rw (past k c.most same) at c.all in
       omega (arith, left)
 
-  -- there is room for one more
-  pub room : (n at most : ℕ) → Counting n at → at < length b → length (differences a b 0 (length b)) ≤ most → n < most
-  room n at most c h fits =
-      let left : n + length (at ∷ rest a b (at + 1)) ≡ length (differences a b 0 (length b)) = rw (first n at c h) at c.all in
-      omega (arith, left)
+  -- the next one stands at p
+  module _ (n k p : ℕ) (c : Counting n k) (u : Until a b k (length b) p) (less : p < length b) where
+    pub first : rest a b k ≡ p ∷ rest a b (p + 1)
+    first = rest_over a b k p u.onward u.most u.clear ∙ rest_hit a b p less (u.found less)
 
-  module _ (w : Writing) where
+    left : n + length (p ∷ rest a b (p + 1)) ≡ length (differences a b 0 (length b))
+    left = rw first at c.all
+
+    pub counting_on : Counting (n + 1) (p + 1)
+    counting_on = record { most = omega (arith, less); few = omega (arith, c.few, u.onward); all = omega (arith, left) }
+
+    -- there is room for it
+    pub room : (most : ℕ) → length (differences a b 0 (length b)) ≤ most → n < most
+    room most fits = omega (arith, left)
+
+  module _ {A : Type 0} (w : Writing A) where
     -- the same with l the list before, and m now
-    pub record Listing (l m : List ℕ) (i at : ℕ) : Type 0 where
-      pub counting : Counting i at
+    pub record Listing (l m : List A) (i k : ℕ) : Type 0 where
+      pub counting : Counting i k
       pub long : length m ≡ length l
-      pub kept : w.all m i (strayed (rest a b at)) ≡ w.all l 0 (strayed (differences a b 0 (length b)))
+      pub kept : w.all m i (strayed (rest a b k)) ≡ w.all l 0 (strayed (differences a b 0 (length b)))
 
-    pub listing_start : (l : List ℕ) (k : ℕ) → Until a b 0 (length b) k → Listing l l 0 k
-    listing_start l k u =
-        record {
-          counting = counting_start k u;
-          long = refl;
-          kept = ap (λ (ks : List ℕ). w.all l 0 (strayed ks)) (sym (went 0 k u) ∙ from_start);
-        }
+    pub listing_start : (l : List A) → Listing l l 0 0
+    listing_start l = record { counting = counting_start; long = refl; kept = ap (λ (ks : List ℕ). w.all l 0 (strayed ks)) from_start }
 
-    pub listing_on : (l m : List ℕ) (i at k : ℕ) → Listing l m i at → at < length b → Until a b (at + 1) (length b) k
-        → Listing l (w.one m i (at + 16777216)) (i + 1) k
+    pub listing_on : (l m : List A) (i k p : ℕ) → Listing l m i k → Until a b k (length b) p → p < length b
+        → Listing l (w.one m i (p + 16777216)) (i + 1) (p + 1)
     unfolding strayed
-    listing_on l m i at k c h u =
+    listing_on l m i k p c u less =
         record {
-          counting = counting_on i at k c.counting h u;
-          long = w.long m i (at + 16777216) ∙ c.long;
-          kept = rw (← went (at + 1) k u)
-              (sym (w.more m i (at + 16777216) (strayed (rest a b (at + 1))))
-              ∙ sym (ap (λ (ks : List ℕ). w.all m i (strayed ks)) (first i at c.counting h))
-              ∙ c.kept);
+          counting = counting_on i k p c.counting u less;
+          long = w.long m i (p + 16777216) ∙ c.long;
+          kept = sym (w.more m i (p + 16777216) (strayed (rest a b (p + 1))))
+              ∙ sym (ap (λ (ks : List ℕ). w.all m i (strayed ks)) (first i k p c.counting u less))
+              ∙ c.kept;
         }
 
-    pub listing_end : (l m : List ℕ) (i at : ℕ) → Listing l m i at → length b ≤ at
+    pub listing_end : (l m : List A) (i k : ℕ) → Listing l m i k → SameBytes a b k (length b)
         → m ≡ w.all l 0 (strayed (differences a b 0 (length b)))
     unfolding strayed
-    listing_end l m i at c h =
-        sym (w.none m i) ∙ sym (ap (λ (ks : List ℕ). w.all m i (strayed ks)) (rest_none a b at h)) ∙ c.kept
+    listing_end l m i k c same =
+        sym (w.none m i) ∙ sym (ap (λ (ks : List ℕ). w.all m i (strayed ks)) (past k c.counting.most same)) ∙ c.kept
 
 -- ---- a reading without a settings part
 

@@ -1,7 +1,7 @@
 -- The next moved word is the nearer of two: the tables' next and the modules' next.
 -- Assumes nothing.
-use Rattle.std.specs.Prelude.{◌≡◌, ℕ, suc, ◌+◌, ◌-◌, ◌<◌, ◌≤◌, Bool, true, false, cond, List, length, nat_lt, refl}
-use Rattle.std.proofs.Common.{sym, ap, ◌∙◌, arith, ltb-true, ltb-false, length-append, get_or-append-add}
+use Rattle.std.specs.Prelude.{◌≡◌, ℕ, suc, ◌+◌, ◌-◌, ◌<◌, ◌≤◌, cond, min, List, length, nat_lt}
+use Rattle.std.proofs.Common.{ap, ◌∙◌, arith, ltb-true, ltb-false, length-append, get_or-append-add}
 use Rattle.std.proofs.Math.Decide.{dec_lt}
 use Rattle.facts.specs.RulesLaws.{by_cond}
 use Rattle.words.specs.Le.{le}
@@ -11,21 +11,16 @@ use Rattle.inside_walk.specs.Whole.{walked}
 use Rattle.inside_judge.specs.Rules.{patch_items}
 use Rattle.move_modules.specs.MovableLaws.{movable}
 use Rattle.audit_fill_window.specs.declared.Window.{Window}
-use Rattle.audit_fill_window.specs.Near.{module_words, Ordered, Next}
+use Rattle.audit_fill_window.specs.Near.{Ordered, Next}
 use Rattle.answers.specs.declared.Reading.{Reading}
 use Rattle.reading_rules.specs.Reading.{entries_at, file_at}
 use Rattle.reading_rules.specs.Guarantee.{Guaranteed}
 use Rattle.reading_rules.specs.Words.{met, words_of}
-use Rattle.move_image.specs.Fixed.{fixed_at, fixed}
+use Rattle.move_image.specs.Fixed.{fixed}
 use Rattle.move_image.specs.MovingLaws.{words_split, fixed_count, fixed_in, count_least}
 use Rattle.audit_tables.specs.Ahead.{Foremost}
 use Rattle.audit_step.specs.Stride.{Reach, Coming, ending}
 use Rattle.audit_step.specs.StrideLaws.{word_fits}
-
--- two choices by one check
-by_both : (P : ℕ → ℕ → Type 0) (b : Bool) (x y u v : ℕ) → (b ≡ true → P x u) → (b ≡ false → P y v) → P (cond b x y) (cond b u v)
-by_both P true x y u v f g = f refl
-by_both P false x y u v f g = g refl
 
 module _ (xs : List ℕ) (r : Reading) (g : Guaranteed xs r) where
   -- ---- the modules' words in the list of all
@@ -118,6 +113,14 @@ module _ (xs : List ℕ) (r : Reading) (g : Guaranteed xs r) where
           least = least first (omega arith) h;
         }
 
-    pub reach_nearer : Reach xs r at (cond (nat_lt w first) w first) (cond (nat_lt w first) m 4)
+    pub reach_nearer : Reach xs r at (min w first) (cond (nat_lt w first) m 4)
     reach_nearer =
-        by_both (Reach xs r at) (nat_lt w first) w first m 4 (λ e. reach_module (ltb-true w first e)) (λ e. reach_fixed (ltb-false w first e))
+        by_cond (λ (k : ℕ). Reach xs r at (min w first) k) (nat_lt w first) m 4
+        (λ e.
+        let l = ltb-true w first e in
+        let s : min w first ≡ w = omega arith in
+        rw s (reach_module l))
+        (λ e.
+        let l = ltb-false w first e in
+        let s : min w first ≡ first = omega arith in
+        rw s (reach_fixed l))

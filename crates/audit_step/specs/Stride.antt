@@ -1,19 +1,22 @@
 -- What one step of the walk needs and passes: where the next moved word is, and where the two files differ.
 -- Assumes nothing.
-use Rattle.std.specs.Prelude.{◌≡◌, ℕ, suc, ◌+◌, ◌-◌, ◌<◌, ◌≤◌, true, false, cond, List, length, ◌≢◌, nat_lt, slice_index}
+use Rattle.std.specs.Prelude.{◌≡◌, ℕ, suc, ◌+◌, ◌-◌, ◌<◌, ◌≤◌, cond, List, Option, Some, None, length, ◌≢◌, nat_lt, slice_index}
 use Rattle.words.specs.Put.{digit}
 use Rattle.move_modules.specs.Relocate.{shift}
 use Rattle.answers.specs.declared.Reading.{Reading}
 use Rattle.reading_rules.specs.Words.{words_of}
 use Rattle.moves.specs.Moves.{moved}
 use Rattle.audit_step.specs.declared.Step.{Step}
+use Rattle.audit_step.specs.declared.Step.TheVariants.{Passes, Differs}
 
--- k is the first position from `from` on at which ys isn't the m bytes of w, written at p, or p + m
-pub record InWord (ys : List ℕ) (p m w from k : ℕ) : Type 0 where
-  pub onward : from ≤ k
-  pub most : k ≤ p + m
-  pub clear : (i : ℕ) → from ≤ i → i < k → slice_index ys i ≡ digit w (i - p)
-  pub found : k < p + m → slice_index ys k ≢ digit w (k - p)
+-- ys has the bytes of w, written at p, from `from` on up to k
+abbrev pub Written : List ℕ → ℕ → ℕ → ℕ → ℕ → Type 0
+Written ys p w from k = (i : ℕ) → from ≤ i → i < k → slice_index ys i ≡ digit w (i - p)
+
+-- the first position from `from` on at which ys isn't the m bytes of w, written at p
+abbrev pub InWord : List ℕ → ℕ → ℕ → ℕ → ℕ → Option ℕ → Type 0
+InWord ys p m w from (Some k) = (from ≤ k) × (k < p + m) × Written ys p w from k × (slice_index ys k ≢ digit w (k - p))
+InWord ys p m w from None = Written ys p w from (p + m)
 
 -- w is the place of a moved word of m bytes that ends past `at`, or the length, and no moved word that ends past `at` starts before it
 pub record Reach (xs : List ℕ) (r : Reading) (at w m : ℕ) : Type 0 where
@@ -43,10 +46,7 @@ pub record Alike (ref ys : List ℕ) (at to : ℕ) : Type 0 where
   pub most : to ≤ length ys
   pub clear : (k : ℕ) → at ≤ k → k < to → slice_index ys k ≡ slice_index ref k
 
--- a step from `at` on: every byte passed is the reference's, and a hit is a byte that isn't
-pub record Stepped (ref ys : List ℕ) (at : ℕ) (s : Step) : Type 0 where
-  pub most : s.at ≤ length ys
-  pub clear : (k : ℕ) → at ≤ k → k < s.at → slice_index ys k ≡ slice_index ref k
-  pub onward : at ≤ s.at
-  pub passed : s.hit ≡ false → at < s.at
-  pub found : s.hit ≡ true → (s.at < length ys) × (slice_index ys s.at ≢ slice_index ref s.at)
+-- a step from `at` on: every byte passed is the reference's, and one at which it ends isn't
+abbrev pub Stepped : List ℕ → List ℕ → ℕ → Step → Type 0
+Stepped ref ys at (Passes k) = Alike ref ys at k × (at < k)
+Stepped ref ys at (Differs k) = Alike ref ys at k × (k < length ys) × (slice_index ys k ≢ slice_index ref k)

@@ -1,6 +1,7 @@
 -- The reference byte by byte, as the walk meets it.
 -- Assumes nothing.
-use Rattle.std.specs.Prelude.{◌≡◌, ℕ, ◌+◌, ◌-◌, ◌%◌, ◌^◌, ◌<◌, ◌≤◌, Bool, true, false, ◌⊎◌, List, length, slice_index}
+use Rattle.std.specs.Prelude.{◌≡◌, refl, ℕ, zero, suc, ◌+◌, ◌-◌, ◌/◌, ◌%◌, ◌^◌, ◌<◌, ◌≤◌, ◌⊎◌, List, length, slice_index}
+use Rattle.std.specs.Int.{to_le_bytes, w64}
 use Rattle.std.proofs.Common.{sym, ◌∙◌, inl, inr, arith}
 use Rattle.std.proofs.Math.Decide.{dec_lt}
 use Rattle.std.proofs.Math.Nat.{mod-mod}
@@ -14,8 +15,7 @@ use Rattle.reading_rules.specs.Words.{words_of}
 use Rattle.reading_rules.specs.WordsLaws.{spread, widths}
 use Rattle.moves.specs.Moves.{moved_to, Beside}
 use Rattle.moves.specs.MovesLaws.{bytes_moved, moved_beside, moved_word}
-use Rattle.audit_step.specs.declared.Step.{Step}
-use Rattle.audit_step.specs.Stride.{Reach, by, Alike, Stepped}
+use Rattle.audit_step.specs.Stride.{Reach, by}
 
 -- a word lies in the image
 pub word_fits : (xs : List ℕ) (r : Reading) → Guaranteed xs r → (p m j : ℕ) → j < (words_of xs r).count → (words_of xs r).at j ≡ p
@@ -68,13 +68,19 @@ module _ (xs : List ℕ) (r : Reading) (g : Guaranteed xs r) (four eight : ℕ) 
       let s : p + (k - p) ≡ k = omega arith in
       rw s at (same.same (k - p) (omega arith) ∙ put_in m xs p v (k - p) fits (omega arith))
 
--- what is passed as equal is a step without a difference
-pub passed_on : {ref ys : List ℕ} {at k : ℕ} → Alike ref ys at k → at < k → Stepped ref ys at (record { at = k; hit = false })
-passed_on a more =
-    record {
-      most = a.most;
-      clear = a.clear;
-      onward = a.onward;
-      passed = λ e. more;
-      found = λ e. absurd (let z : ◌≡◌ {A = ℕ} 0 1 = cc in omega arith);
-    }
+-- ---- byte i of a number of eight
+
+by_one : (w : ℕ) → w % 256 ≡ w / 1 % 256
+by_one w = let e : w / 1 ≡ w = omega arith in rw e
+
+pub byte_digit : (w i : ℕ) → i < 8 → slice_index (to_le_bytes w64 w) i ≡ digit w i
+unfolding digit
+byte_digit w zero h = by_one w
+byte_digit w (suc zero) h = refl
+byte_digit w (suc (suc zero)) h = refl
+byte_digit w (suc (suc (suc zero))) h = refl
+byte_digit w (suc (suc (suc (suc zero)))) h = refl
+byte_digit w (suc (suc (suc (suc (suc zero))))) h = refl
+byte_digit w (suc (suc (suc (suc (suc (suc zero)))))) h = refl
+byte_digit w (suc (suc (suc (suc (suc (suc (suc zero))))))) h = refl
+byte_digit w (suc (suc (suc (suc (suc (suc (suc (suc i)))))))) h = absurd (omega arith)

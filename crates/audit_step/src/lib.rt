@@ -3,27 +3,18 @@
 
 ghost use Rattle.std.specs.Prelude.{◌≡◌, ◌+◌, ◌%◌, ◌^◌, ◌<◌, ◌≤◌, true, ◌⊎◌, length, if◌then◌else◌, nat_lt};
 ghost use Rattle.words.specs.Le.{le};
-ghost use Rattle.words.specs.Put.{digit};
-ghost use Rattle.move_modules.specs.Relocate.{shift};
 ghost use Rattle.reading_rules.specs.Guarantee.{Guaranteed};
 ghost use Rattle.audit_tables.specs.Ahead.{Foremost};
 ghost use Rattle.audit_step.specs.Stride.{Reach, Coming, ending, by, InWord, Alike, Stepped};
 
 use answers::Reading;
+use moves::Shift;
 
-// Where a step of the walk ends, and whether at a difference.
+// How a step of the walk ends: with all bytes up to a position passed, or at the first byte that isn't the reference's.
 #[derive(Clone, Copy)]
-pub struct Step {
-    pub at: usize,
-    pub hit: bool,
-}
-
-// Byte i of w.
-fn digit_of(w: u64, i: usize) -> u8
-    requires { i < 8 }
-    ensures { result ≡ digit w i }
-{
-    ((w >> (8 * i)) % 256) as u8
+pub enum Step {
+    Passes(usize),
+    Differs(usize),
 }
 
 // Whether the word of m bytes at p is w; one of neither 4 bytes nor 8 is left open.
@@ -40,32 +31,18 @@ fn is_word(shipped: &[u8], p: usize, m: usize, w: u64) -> bool
     words::le32(shipped, p) as u64 == w
 }
 
-// The first position from `from` on in the word of m bytes at p at which the shipped byte isn't that of w, or p + m.
-fn first_in_word(shipped: &[u8], p: usize, m: usize, w: u64, from: usize) -> usize
+// The first position from `from` on in the word of m bytes at p at which the shipped byte isn't that of w.
+fn first_in_word(shipped: &[u8], p: usize, m: usize, w: u64, from: usize) -> Option<usize>
     requires { (p ≤ from) × (from < p + m) × (p + m ≤ length shipped.now) × (m ≤ 8) }
     ensures { InWord shipped.now p m w from result }
 {
-    let end = p + m;
-    let mut k = from;
-    while k < end {
-        if shipped[k] != digit_of(w, k - p) {
-            return k;
+    let bytes = w.to_le_bytes();
+    for k in from..p + m {
+        if shipped[k] != bytes[k - p] {
+            return Some(k);
         }
-        k += 1;
     }
-    k
-}
-
-// The moved value of the word of m bytes at p.
-fn moved_word(vendor: &[u8], p: usize, m: usize, four: u32, eight: u64) -> u64
-    requires { (p + m ≤ length vendor.now) × ((m ≡ 4) ⊎ (m ≡ 8)) }
-    ensures { result ≡ (le m vendor.now p + shift four eight m) % 256 ^ m }
-{
-    if m == 4 {
-        let w = words::le32(vendor, p) as u32;
-        return std::num::wrapping_add_u32(w, four) as u64;
-    }
-    std::num::wrapping_add_u64(words::le64(vendor, p) as u64, eight)
+    None
 }
 
 // Up to where all bytes from `at` on are those of the reference: past the usual stretch before the next word, or past that word; `at` where more is to be looked at.
@@ -73,15 +50,14 @@ fn pass_equal(
     vendor: &[u8],
     shipped: &[u8],
     r: Reading,
-    four: u32,
-    eight: u64,
+    d: Shift,
     at: usize,
     w: usize,
     m: usize,
 ) -> usize
     requires { Guaranteed vendor.now r × Reach vendor.now r at w m × (at < length vendor.now)
         × (length shipped.now ≡ length vendor.now) }
-    ensures { Alike (by vendor.now r four eight) shipped.now at result }
+    ensures { Alike (by vendor.now r d.four d.eight) shipped.now at result }
 {
     if at < w {
         if audit_stretch::is_same(vendor, shipped, at, w) {
@@ -89,7 +65,7 @@ fn pass_equal(
         }
         return at;
     }
-    let value = moved_word(vendor, w, m, four, eight);
+    let value = move_modules::moved_word(vendor, w, m, d);
     if is_word(shipped, w, m, value) {
         return w + m;
     }
@@ -101,39 +77,29 @@ fn step_to(
     vendor: &[u8],
     shipped: &[u8],
     r: Reading,
-    four: u32,
-    eight: u64,
+    d: Shift,
     at: usize,
     w: usize,
     m: usize,
 ) -> Step
     requires { Guaranteed vendor.now r × Reach vendor.now r at w m × (at < length vendor.now)
         × (length shipped.now ≡ length vendor.now) }
-    ensures { Stepped (by vendor.now r four eight) shipped.now at result }
+    ensures { Stepped (by vendor.now r d.four d.eight) shipped.now at result }
 {
     if at < w {
-        let k = audit_stretch::first_difference(vendor, shipped, at, w);
-        return Step { at: k, hit: k < w };
+        if let Some(k) = audit_stretch::first_difference(vendor, shipped, at, w) {
+            return Step::Differs(k);
+        }
+        return Step::Passes(w);
     }
-    let value = moved_word(vendor, w, m, four, eight);
-    let k = first_in_word(shipped, w, m, value, at);
-    Step {
-        at: k,
-        hit: k < w + m,
+    let value = move_modules::moved_word(vendor, w, m, d);
+    match first_in_word(shipped, w, m, value, at) {
+        Some(k) => Step::Differs(k),
+        None => Step::Passes(w + m),
     }
 }
 
-// Of the tables' next word at `first` and the modules' next at p, the nearer.
-fn nearer(first: usize, p: usize) -> usize
-    ensures { result ≡ (if nat_lt p first then p else first) }
-{
-    if p < first {
-        return p;
-    }
-    first
-}
-
-// How many bytes it has, where the modules' has m: the tables' has 4.
+// How many bytes the nearer of the tables' next word at `first` and the modules' next at p has, where the modules' has m: the tables' has 4.
 fn width_of(first: usize, p: usize, m: usize) -> usize
     ensures { result ≡ (if nat_lt p first then m else 4) }
 {
@@ -145,13 +111,12 @@ fn width_of(first: usize, p: usize, m: usize) -> usize
 
 // Where the tables' next word stands at `first` and the modules' next, of m bytes, at p, the nearer of the two is next. Up to where all bytes from
 // `at` on are those of the reference, which is nearly always up to that word or past it; `at` where more is to be looked at. A number alone:
-// a step with its flag would go through memory at each word.
+// a step with its kind would go through memory at each word.
 pub fn pass(
     vendor: &[u8],
     shipped: &[u8],
     r: Reading,
-    four: u32,
-    eight: u64,
+    d: Shift,
     at: usize,
     first: usize,
     p: usize,
@@ -159,11 +124,11 @@ pub fn pass(
 ) -> usize
     requires guaranteed { Guaranteed vendor.now r × (at < length vendor.now) × (length shipped.now ≡ length vendor.now) }
     requires foremost { Foremost vendor.now r at first × (first < length vendor.now → at < first + 4) × Coming vendor.now r at p m }
-    ensures { Alike (by vendor.now r four eight) shipped.now at result }
+    ensures { Alike (by vendor.now r d.four d.eight) shipped.now at result }
 {
-    let w = nearer(first, p);
+    let w = p.min(first);
     let n = width_of(first, p, m);
-    pass_equal(vendor, shipped, r, four, eight, at, w, n)
+    pass_equal(vendor, shipped, r, d, at, w, n)
 }
 
 // One step of the walk from `at` on, whatever the bytes are.
@@ -171,8 +136,7 @@ pub fn advance(
     vendor: &[u8],
     shipped: &[u8],
     r: Reading,
-    four: u32,
-    eight: u64,
+    d: Shift,
     at: usize,
     first: usize,
     p: usize,
@@ -180,11 +144,11 @@ pub fn advance(
 ) -> Step
     requires guaranteed { Guaranteed vendor.now r × (at < length vendor.now) × (length shipped.now ≡ length vendor.now) }
     requires foremost { Foremost vendor.now r at first × (first < length vendor.now → at < first + 4) × Coming vendor.now r at p m }
-    ensures { Stepped (by vendor.now r four eight) shipped.now at result }
+    ensures { Stepped (by vendor.now r d.four d.eight) shipped.now at result }
 {
-    let w = nearer(first, p);
+    let w = p.min(first);
     let n = width_of(first, p, m);
-    step_to(vendor, shipped, r, four, eight, at, w, n)
+    step_to(vendor, shipped, r, d, at, w, n)
 }
 
 // Up to where the modules' next word is the one of m bytes at p.

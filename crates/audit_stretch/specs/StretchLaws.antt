@@ -1,11 +1,11 @@
 -- Laws of stretches that agree.
 -- Assumes nothing.
-use Rattle.std.specs.Prelude.{◌≡◌, List, ℕ, ◌+◌, ◌-◌, ◌≤◌}
+use Rattle.std.specs.Prelude.{◌≡◌, List, ℕ, ◌+◌, ◌-◌, ◌≤◌, get_or}
 use Rattle.std.proofs.Common.{sym, arith}
 use Rattle.std.proofs.Math.Decide.{dec_lt}
 use Rattle.words.specs.Le.{le, Bytes}
 use Rattle.words.specs.PutLaws.{le_one}
-use Rattle.audit_stretch.specs.Stretch.{SameBytes}
+use Rattle.audit_stretch.specs.Stretch.{SameBytes, Until}
 
 -- two stretches of agreement are one
 pub same_join : (a b : List ℕ) (from k to : ℕ) → SameBytes a b from k → SameBytes a b k to → SameBytes a b from to
@@ -21,3 +21,8 @@ same_le m a b at ba bb e i h l =
     let same = le_one m a b at ba bb e in
     let s : at + (i - at) ≡ i = omega arith in
     sym (rw s at (same.same (i - at) (omega arith)))
+
+-- a difference at the first position
+pub until_at : (a b : List ℕ) (from to : ℕ) → from ≤ to → (get_or b from 0 ≡ get_or a from 0 → ⊥) → Until a b from to from
+until_at a b from to h differs =
+    record { onward = omega arith; most = h; clear = λ i g l. absurd (omega arith); found = λ l. differs }

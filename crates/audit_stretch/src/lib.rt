@@ -2,7 +2,7 @@
 #![tactic(auto)]
 
 ghost use Rattle.std.specs.Prelude.{true, ◌≡◌, ◌+◌, ◌≤◌, length};
-ghost use Rattle.audit_stretch.specs.Stretch.{SameBytes, Until};
+ghost use Rattle.audit_stretch.specs.Stretch.{SameBytes, Differs};
 
 // The bits at which the words at k differ.
 fn turned(a: &[u8], b: &[u8], k: usize) -> usize
@@ -71,6 +71,7 @@ fn skip_blocks(a: &[u8], b: &[u8], from: usize, to: usize) -> usize
     requires { (from ≤ to) × (to ≤ length a.now) × (to ≤ length b.now) }
     ensures { (from ≤ result) × (result ≤ to) × SameBytes a.now b.now from result }
 {
+    // No `step_by`: where fewer than 32 bytes are left it would still hand out a position.
     let mut k = from;
     while to - k >= 32 {
         if !same_block(a, b, k, k + 32) {
@@ -86,6 +87,7 @@ fn skip_words(a: &[u8], b: &[u8], from: usize, to: usize) -> usize
     requires { (from ≤ to) × (to ≤ length a.now) × (to ≤ length b.now) }
     ensures { (from ≤ result) × (result ≤ to) × SameBytes a.now b.now from result }
 {
+    // No `step_by`, for the same reason.
     let mut k = from;
     while to - k >= 8 {
         if turned(a, b, k) != 0 {
@@ -133,17 +135,29 @@ pub fn is_same(a: &[u8], b: &[u8], from: usize, to: usize) -> bool
     same_short(a, b, from, to)
 }
 
-// The first position from `from` on and below `to` at which the two differ, or `to`.
-pub fn first_difference(a: &[u8], b: &[u8], from: usize, to: usize) -> usize
+// The first position from `from` on and below `to` at which the two differ.
+pub fn first_difference(a: &[u8], b: &[u8], from: usize, to: usize) -> Option<usize>
     requires { (from ≤ to) × (to ≤ length a.now) × (to ≤ length b.now) }
-    ensures { Until a.now b.now from to result }
+    ensures { Differs a.now b.now from to result }
 {
-    let mut k = skip(a, b, from, to);
-    while k < to {
+    for k in skip(a, b, from, to)..to {
         if b[k] != a[k] {
-            return k;
+            return Some(k);
         }
-        k += 1;
     }
-    k
+    None
+}
+
+// The same where the first byte is likely to differ too: it is looked at by itself.
+pub fn next(a: &[u8], b: &[u8], from: usize, to: usize) -> Option<usize>
+    requires { (from ≤ to) × (to ≤ length a.now) × (to ≤ length b.now) }
+    ensures { Differs a.now b.now from to result }
+{
+    if from == to {
+        return None;
+    }
+    if b[from] != a[from] {
+        return Some(from);
+    }
+    first_difference(a, b, from, to)
 }

@@ -9,7 +9,8 @@ ghost use Rattle.audit_tables.specs.Ahead.{started, Rest, Known};
 
 use answers::Reading;
 
-// The place of the nearest that isn't passed, or the image's length; and where in the list the one after it stands.
+// The place of the nearest that isn't passed, or the image's length; and where in the list the one after it stands. A place in both cases and
+// no Option, so that the nearer of this one and the modules' next is the `min` of two places.
 #[derive(Clone, Copy)]
 pub struct Ahead {
     pub first: usize,
@@ -41,8 +42,7 @@ fn next_word(image: &[u8], r: Reading, ranks: &[u32], at: usize, k: usize) -> Ah
     ensures known { Known image.now r ranks.now at result }
     ensures at_bound { result.first < length image.now → at < result.first + 4 }
 {
-    let mut i = k;
-    while i < r.n {
+    for i in k..r.n {
         let p = table_order::place_in(ranks, i);
         if at < p + 4 {
             return Ahead {
@@ -50,11 +50,10 @@ fn next_word(image: &[u8], r: Reading, ranks: &[u32], at: usize, k: usize) -> Ah
                 next: i + 1,
             };
         }
-        i += 1;
     }
     Ahead {
         first: image.len(),
-        next: i,
+        next: r.n,
     }
 }
 

@@ -1,6 +1,6 @@
 -- Laying the words of a walk into a window: an item, the entries of a block, a turn of the loop.
 -- Assumes nothing.
-use Rattle.std.specs.Prelude.{ℕ, zero, suc, ◌+◌, ◌-◌, ◌/◌, ◌%◌, ◌≤◌, ◌<◌, List, [], ◌∷◌, ◌++◌, ◌⊎◌, ◌≡◌, ltb, eqb, length, get_or}
+use Rattle.std.specs.Prelude.{ℕ, zero, suc, ◌+◌, ◌-◌, ◌/◌, ◌%◌, ◌≤◌, ◌<◌, List, [], ◌∷◌, ◌++◌, ◌⊎◌, ◌≡◌, ltb, eqb, length}
 use Rattle.std.proofs.Common.{inl, sym, ap, ◌∙◌, arith, ltb-false}
 use Rattle.std.proofs.Math.Logic.{inr}
 use Rattle.std.proofs.Math.Path.{refl}
@@ -8,9 +8,8 @@ use Rattle.std.proofs.Math.Decide.{ℕ_discrete, dec_lt}
 use Rattle.facts.specs.Fact.{Holds}
 use Rattle.facts.specs.RulesLaws.{by_cond}
 use Rattle.words.specs.Le.{le}
-use Rattle.words.specs.Put.{digit}
 use Rattle.items.specs.declared.Item.{Item}
-use Rattle.items.specs.Items.{inside, word_kind, end_kind}
+use Rattle.items.specs.Items.{inside, word_kind, end_kind, kind_number}
 use Rattle.inside_rows.specs.declared.Module.{Module}
 use Rattle.inside_modules.specs.ModulesFit.{Fits}
 use Rattle.inside_places.specs.declared.Span.{Span}
@@ -26,8 +25,9 @@ use Rattle.inside_walk.specs.declared.Move.{Move}
 use Rattle.inside_walk.specs.WholeWalk.{ahead, Valid, Stepped}
 use Rattle.inside_walk.specs.Entries.{entries_of, past_of, ahead_entries}
 use Rattle.audit_lay.specs.Lay.{In, ItemLaid}
-use Rattle.audit_window.specs.Window.{Has, Apart, Fitting, Low, Drawing, Draws, Drawn}
-use Rattle.audit_window.specs.WindowLaws.{step_none, entries_next, low_above, has_split, has_later}
+use Rattle.audit_fill_window.specs.Near.{Has, Low}
+use Rattle.audit_fill_window.specs.NearLaws.{step_none, entries_next, low_above, has_split, has_later}
+use Rattle.audit_window.specs.Window.{Apart, Fitting, Drawing, Draws, Drawn}
 
 module _ (value : ℕ → ℕ → ℕ) (all : List Item) (from n : ℕ) (base : List ℕ) where
   pub drawing_start : n ≤ length base → Drawing value all all from n base base
@@ -46,11 +46,11 @@ module _ (value : ℕ → ℕ → ℕ) (all : List Item) (from n : ℕ) (base : 
 
   module _ (x : Item) (rest : List Item) (ms : List ℕ) (drawing : Drawing value all (x ∷ rest) from n base ms) where
     -- the item, if it is a word, is one of all
-    one : x.kind ≡ word_kind → Has all x.at x.len
+    one : kind_number x.kind ≡ word_kind → Has all x.at x.len
     unfolding Has
     one k = drawing.back _ _ (inl (k, refl, refl))
 
-    fork : (k w : ℕ) → Has (x ∷ rest) k w → ((x.kind ≡ word_kind) × (x.at ≡ k) × (x.len ≡ w)) ⊎ Has rest k w
+    fork : (k w : ℕ) → Has (x ∷ rest) k w → ((kind_number x.kind ≡ word_kind) × (x.at ≡ k) × (x.len ≡ w)) ⊎ Has rest k w
     unfolding Has
     fork k w h = h
 
@@ -59,12 +59,12 @@ module _ (value : ℕ → ℕ → ℕ) (all : List Item) (from n : ℕ) (base : 
     later k w h = inr h
 
     pub drawing_inside : (m : ℕ) → Fitting m all → Holds (inside m x)
-    drawing_inside m fits = elim (ℕ_discrete x.kind word_kind) [ yes e ↦ inr (fits _ _ (one e)) | no e ↦ inl e ]
+    drawing_inside m fits = elim (ℕ_discrete (kind_number x.kind) word_kind) [ yes e ↦ inr (fits _ _ (one e)) | no e ↦ inl e ]
 
     module _ (new : List ℕ) (apart : Apart all) (laid : ItemLaid value from n x ms new) where
-      here : (k : ℕ) → Dec ((x.kind ≡ word_kind) × In x.at x.len k)
+      here : (k : ℕ) → Dec ((kind_number x.kind ≡ word_kind) × In x.at x.len k)
       here k =
-          elim (ℕ_discrete x.kind word_kind) [
+          elim (ℕ_discrete (kind_number x.kind) word_kind) [
             | yes a ↦
                 elim (dec_lt k x.at) [
                   | yes b ↦ no (λ (p, (q, r)). omega arith)
@@ -181,8 +181,8 @@ module _ (value : ℕ → ℕ → ℕ) (xs : List ℕ) (v : ℕ) (all : List Ite
   drawing_entries new apart draws = draws all (ahead xs v (past_of t)) base apart (rw (ahead_entries xs v t) at is)
 
   module _ (m : Move) (step : Stepped xs v t m) where
-    pub drawing_end : m.item.kind ≡ end_kind → Drawn value all from n base ms
+    pub drawing_end : kind_number m.item.kind ≡ end_kind → Drawn value all from n base ms
     drawing_end z = drawing_done value all from n base (ahead xs v t) ms is (λ k w i h g a. step_none xs v t m step z k w g)
 
-    pub drawing_step : (m.item.kind ≡ end_kind → ⊥) → Drawing value all (m.item ∷ ahead xs v m.next) from n base ms
+    pub drawing_step : (kind_number m.item.kind ≡ end_kind → ⊥) → Drawing value all (m.item ∷ ahead xs v m.next) from n base ms
     drawing_step some = rw (step.goes some) at is

@@ -1,23 +1,16 @@
 -- Request #107: the words of the modules, for a walk that goes up through the image. They may come in any order within a module; a window of
 -- bytes that stand at the positions from `from` on has them all laid into it.
 -- Assumes nothing.
-use Rattle.std.specs.Prelude.{ℕ, ◌+◌, ◌-◌, ◌≤◌, ◌<◌, List, [], ◌∷◌, ◌++◌, ◌⊎◌, ◌≡◌, length, get_or}
+use Rattle.std.specs.Prelude.{ℕ, ◌+◌, ◌-◌, ◌≤◌, ◌<◌, List, ◌++◌, ◌⊎◌, ◌≡◌, length, get_or}
 use Rattle.words.specs.Put.{digit}
 use Rattle.items.specs.declared.Item.{Item}
-use Rattle.items.specs.Items.{word_kind}
-use Rattle.inside_rows.specs.declared.Module.{Module}
-use Rattle.inside_blocks.specs.declared.Cursor.{Cursor}
 use Rattle.inside_walk.specs.declared.Spot.{Spot}
 use Rattle.inside_walk.specs.WholeWalk.{ahead, Valid}
+use Rattle.audit_fill_window.specs.Near.{Has}
 use Rattle.audit_lay.specs.Lay.{In}
 use Rattle.audit_window.specs.declared.Found.{Found}
 
 -- ---- the words of a list of items
-
--- a word of w bytes stands at k
-unfoldable pub Has : List Item → ℕ → ℕ → Type 0
-Has [] k w = ⊥
-Has (x ∷ l) k w = ((x.kind ≡ word_kind) × (x.at ≡ k) × (x.len ≡ w)) ⊎ Has l k w
 
 -- each has bytes, and no two share one
 pub record Apart (l : List Item) : Type 0 where
@@ -29,16 +22,6 @@ abbrev pub Fitting : ℕ → List Item → Type 0
 Fitting n l = (k w : ℕ) → Has l k w → (k + w ≤ n) × ((w ≡ 4) ⊎ (w ≡ 8))
 
 -- ---- where the walk stands
-
--- all of the module is passed
-abbrev pub Done : Module → Cursor → Type 0
-Done m c = (c.heads ≡ 0) × (c.left ≡ 0) × (m.size ≤ c.used)
-
--- n lies at or below all that can be ahead of s: the module at hand, unless all of it is passed, the next section, the next file
-pub record Low (s : Spot) (n : ℕ) : Type 0 where
-  pub hand : (n ≤ s.m.lo) ⊎ Done s.m s.c
-  pub section : s.place.at < s.place.end → n ≤ s.place.at
-  pub file : n ≤ s.place.file
 
 -- from s on the walk has come to t, and each word that it has passed ends by n
 pub record Passed (xs : List ℕ) (v : ℕ) (s : Spot) (n : ℕ) (t : Spot) : Type 0 where

@@ -1,53 +1,25 @@
 -- The words of a list, and the walk to the first word that is yet to come.
 -- Assumes nothing.
-use Rattle.std.specs.Prelude.{ℕ, zero, suc, ◌+◌, ◌-◌, ◌≤◌, ◌<◌, Bool, true, false, List, [], ◌∷◌, ◌++◌, ◌⊎◌, ◌≡◌, refl, length}
+use Rattle.std.specs.Prelude.{ℕ, ◌+◌, ◌-◌, ◌≤◌, ◌<◌, Option, None, Some, unwrap_or, List, [], ◌∷◌, ◌⊎◌, ◌≡◌, length}
 use Rattle.std.proofs.Common.{inl, inr, sym, ap, ◌∙◌, arith}
 use Rattle.std.proofs.Math.Decide.{ℕ_discrete, dec_lt}
 use Rattle.facts.specs.Fact.{Holds}
 use Rattle.words.specs.Le.{le}
 use Rattle.items.specs.declared.Item.{Item}
-use Rattle.items.specs.Items.{each, apart_from, inside, words_in, nth, word_kind, end_kind}
-use Rattle.items.specs.Listed.{words_none, words_more, words_same, spread}
-use Rattle.items.specs.Shapes.{from as above}
+use Rattle.items.specs.Items.{each, apart_from, inside, words_in, nth, word_kind, end_kind, kind_number}
+use Rattle.items.specs.Listed.{spread}
 use Rattle.inside_rows.specs.declared.Module.{Module}
-use Rattle.inside_blocks.specs.declared.Cursor.{Cursor}
-use Rattle.inside_blocks.specs.Blocks.{heads_from, item_of, entries_from, blocks_from}
-use Rattle.inside_blocks.specs.BlocksWalk as blocksWalk
+use Rattle.inside_blocks.specs.Blocks.{item_of, entries_from}
 use Rattle.inside_walk.specs.declared.Spot.{Spot}
 use Rattle.inside_walk.specs.declared.Move.{Move}
 use Rattle.inside_walk.specs.WholeWalk.{ahead, Valid, Stepped}
-use Rattle.inside_walk.specs.WholeAbove.{ahead_above}
 use Rattle.inside_walk.specs.Entries.{entries_of, past_of, ahead_entries, past_valid}
 use Rattle.audit_lay.specs.Lay.{In}
-use Rattle.audit_window.specs.Window.{Has, Apart, Done, Low, Passed, Sought}
+use Rattle.audit_fill_window.specs.Near.{Has, Low}
+use Rattle.audit_fill_window.specs.NearLaws.{has_nth, step_none, step_fork, step_join, entries_next, has_split, has_later, low_above}
+use Rattle.audit_window.specs.Window.{Apart, Passed, Sought}
 
 -- ---- the words of a list
-
-pub has_nth : (l : List Item) (k w : ℕ) → Has l k w
-    → (i : ℕ) × (i < length (words_in l)) × ((nth (words_in l) i).at ≡ k) × ((nth (words_in l) i).len ≡ w)
-unfolding Has
-has_nth [] k w h = absurd h
-has_nth (x ∷ l) k w (inl h) = rw (words_more x l h.0) (0, omega arith, h.1, h.2)
-has_nth (x ∷ l) k w (inr h) = go (ℕ_discrete x.kind word_kind) (has_nth l k w h)
-  where
-    go : Dec (x.kind ≡ word_kind) → (i : ℕ) × (i < length (words_in l)) × ((nth (words_in l) i).at ≡ k) × ((nth (words_in l) i).len ≡ w)
-        → (i : ℕ) × (i < length (words_in (x ∷ l))) × ((nth (words_in (x ∷ l)) i).at ≡ k) × ((nth (words_in (x ∷ l)) i).len ≡ w)
-    go (yes e) (i, a, b, c) = rw (words_more x l e) (suc i, omega arith, b, c)
-    go (no e) r = rw (words_same x l e) r
-
-pub nth_has : (l : List Item) (i : ℕ) → i < length (words_in l) → Has l (nth (words_in l) i).at (nth (words_in l) i).len
-unfolding Has
-nth_has [] i h = absurd (omega (arith, words_none))
-nth_has (x ∷ l) i h = go i h (ℕ_discrete x.kind word_kind) (nth_has l)
-  where
-    go : (i : ℕ) → i < length (words_in (x ∷ l)) → Dec (x.kind ≡ word_kind)
-        → ((j : ℕ) → j < length (words_in l) → Has l (nth (words_in l) j).at (nth (words_in l) j).len)
-        → Has (x ∷ l) (nth (words_in (x ∷ l)) i).at (nth (words_in (x ∷ l)) i).len
-    go i h (no n) rest = rw (words_same x l n) (inr (rest i (rw (words_same x l n) at h)))
-    go zero h (yes n) rest = rw (words_more x l n) (inl (n, refl, refl))
-    go (suc i) h (yes n) rest =
-        let less : suc i < suc (length (words_in l)) = rw (words_more x l n) at h in
-        rw (words_more x l n) (inr (rest i (omega arith)))
 
 pub has_inside : (n : ℕ) (l : List Item) (k w : ℕ) → Holds (each (inside n) l) → Has l k w → (k + w ≤ n) × ((w ≡ 4) ⊎ (w ≡ 8))
 unfolding Has each
@@ -85,40 +57,14 @@ pub apart_some : (l m : List Item) → ((k w : ℕ) → Has m k w → Has l k w)
 apart_some l m of a =
     record { some = λ k w h. a.some k w (of k w h); one = λ k w p u i g h. a.one k w p u i (of k w g) (of p u h) }
 
--- ---- a step of the walk
-
-module _ (xs : List ℕ) (v : ℕ) (t : Spot) (m : Move) (step : Stepped xs v t m) where
-  -- at the end there is none
-  pub step_none : m.item.kind ≡ end_kind → (k w : ℕ) → Has (ahead xs v t) k w → ⊥
-  unfolding Has
-  step_none z k w h = rw (step.ends z) at h
-
-  -- a word ahead is the item, or ahead of the next spot
-  step_fork : (m.item.kind ≡ end_kind → ⊥) → (k w : ℕ) → Has (ahead xs v t) k w
-      → ((m.item.kind ≡ word_kind) × (m.item.at ≡ k) × (m.item.len ≡ w)) ⊎ Has (ahead xs v m.next) k w
-  unfolding Has
-  step_fork is k w h = rw (step.goes is) at h
-
-  step_join : (m.item.kind ≡ end_kind → ⊥) → (k w : ℕ)
-      → ((m.item.kind ≡ word_kind) × (m.item.at ≡ k) × (m.item.len ≡ w)) ⊎ Has (ahead xs v m.next) k w → Has (ahead xs v t) k w
-  unfolding Has
-  step_join is k w h = rw (step.goes is) h
-
 -- ---- the entries of a block
-
--- the first of them, and the rest
-pub entries_next : (xs : List ℕ) (m : Module) (page at k : ℕ) (x : Item) → x ≡ item_of xs m page (le 2 xs at) → 0 < k
-    → entries_from xs m page at k ≡ x ∷ entries_from xs m page (at + 2) (k - 1)
-unfolding entries_from
-entries_next xs m page at zero x e some = absurd (omega arith)
-entries_next xs m page at (suc k) x e some = let one : suc k - 1 ≡ k = omega arith in rw (one, e) refl
 
 -- the words of k entries at `at` end by n, but for those that are left
 abbrev pub Below : List Item → List Item → ℕ → Type 0
 Below l rest n = (k w : ℕ) → Has l k w → (k + w ≤ n) ⊎ Has rest k w
 
 pub below_next : (xs : List ℕ) (m : Module) (page at k n : ℕ) (x : Item) (l : List Item) → x ≡ item_of xs m page (le 2 xs at) → 0 < k
-    → Below l (entries_from xs m page at k) n → (x.kind ≡ word_kind → x.at + x.len ≤ n) → Below l (entries_from xs m page (at + 2) (k - 1)) n
+    → Below l (entries_from xs m page at k) n → (kind_number x.kind ≡ word_kind → x.at + x.len ≤ n) → Below l (entries_from xs m page (at + 2) (k - 1)) n
 unfolding Has
 below_next xs m page at k n x l e some below old i w h =
     elim (rw (entries_next xs m page at k x e some) at (below i w h)) [
@@ -132,46 +78,6 @@ pub below_end : (xs : List ℕ) (m : Module) (page at k n : ℕ) (l : List Item)
 unfolding Has entries_from
 below_end xs m page at k n l e below i w h = elim (below i w h) [ inl a ↦ a | inr a ↦ absurd (rw e at a) ]
 
-pub has_split : (l m : List Item) (k w : ℕ) → Has (l ++ m) k w → Has l k w ⊎ Has m k w
-unfolding Has
-has_split [] m k w h = inr h
-has_split (x ∷ l) m k w (inl h) = inl (inl h)
-has_split (x ∷ l) m k w (inr h) = elim (has_split l m k w h) [ inl a ↦ inl (inr a) | inr a ↦ inr a ]
-
-pub has_later : (l m : List Item) (k w : ℕ) → Has m k w → Has (l ++ m) k w
-unfolding Has
-has_later [] m k w h = h
-has_later (x ∷ l) m k w h = inr (has_later l m k w h)
-
--- ---- what is ahead starts no lower
-
-module_none : (xs : List ℕ) (m : Module) (c : Cursor) → Done m c → blocksWalk.ahead xs m c ≡ []
-unfolding blocksWalk.ahead heads_from entries_from blocks_from
-module_none xs m c (heads, left, used) = let e : m.size - c.used ≡ 0 = omega arith in rw (heads, left, e)
-
-has_from : (n : ℕ) (l : List Item) (k w : ℕ) → Holds (each (above n) l) → Has l k w → 0 < w → n ≤ k
-unfolding Has each
-has_from n [] k w h g some = absurd g
-has_from n (x ∷ l) k w (h, t) (inr g) some = has_from n l k w t g some
-has_from n (x ∷ l) k w (inl z, t) (inl (a, b, c)) some = absurd (omega (arith, z.1))
-has_from n (x ∷ l) k w (inr z, t) (inl (a, b, c)) some = omega arith
-
-pub low_above : (xs : List ℕ) (v n : ℕ) (s : Spot) → Valid xs v s → Low s n → (k w : ℕ) → Has (ahead xs v s) k w → 0 < w → n ≤ k
-low_above xs v n s valid low k w h =
-    has_from n (ahead xs v s) k w (ahead_above xs v n s valid.module_fits (lies low.hand) low.section low.file) h
-  where
-    lies : (n ≤ s.m.lo) ⊎ Done s.m s.c → (n ≤ s.m.lo) ⊎ (blocksWalk.ahead xs s.m s.c ≡ [])
-    lies (inl l) = inl l
-    lies (inr d) = inr (module_none xs s.m s.c d)
-
-pub low_less : (s : Spot) (n k : ℕ) → k ≤ n → Low s n → Low s k
-low_less s n k h low =
-    record {
-      hand = elim low.hand [ inl l ↦ inl (omega arith) | inr d ↦ inr d ];
-      section = λ l. omega (arith, low.section l);
-      file = omega (arith, low.file);
-    }
-
 -- on and on
 pub passed_join : (xs : List ℕ) (v : ℕ) (s t u : Spot) (n m : ℕ) → n ≤ m → Passed xs v s n t → Passed xs v t m u → Passed xs v s m u
 passed_join xs v s t u n m up a b =
@@ -181,14 +87,11 @@ passed_join xs v s t u n m up a b =
       back = λ k w h. a.back k w (b.back k w h);
     }
 
--- a spot that is kept while nothing passed comes too late
-pub kept_on : (xs : List ℕ) (v : ℕ) (s : Spot) (n : ℕ) (late : Bool) (kept spot new next : Spot) → Passed xs v s n kept
-    → (late ≡ false → (kept ≡ spot) × (Passed xs v s n spot → Passed xs v s n new))
-    → (late ≡ true → next ≡ kept) → (late ≡ false → next ≡ new) → Passed xs v s n next
-kept_on xs v s n true kept spot new next p early stays goes = rw (stays refl) p
-kept_on xs v s n false kept spot new next p early stays goes =
-    let (same, on) = early refl in
-    rw (goes refl) (on (rw same at p))
+-- the spot before what ends too late, once there is such, and else the spot at hand
+pub kept_on : (xs : List ℕ) (v : ℕ) (s : Spot) (n : ℕ) (kept : Option Spot) (spot new : Spot) → Passed xs v s n (unwrap_or kept spot)
+    → (Passed xs v s n spot → Passed xs v s n new) → Passed xs v s n (unwrap_or kept new)
+kept_on xs v s n None spot new p on = on p
+kept_on xs v s n (Some k) spot new p on = p
 
 -- ---- on to the first word that is yet to come
 
@@ -214,7 +117,7 @@ module _ (xs : List ℕ) (v : ℕ) (s : Spot) (n : ℕ) where
       }
 
   module _ (t : Spot) (m : Move) (passed : Passed xs v s n t) (step : Stepped xs v t m) where
-    pub passed_next : (m.item.kind ≡ end_kind → ⊥) → (m.item.kind ≡ word_kind → m.item.at + m.item.len ≤ n) → Passed xs v s n m.next
+    pub passed_next : (kind_number m.item.kind ≡ end_kind → ⊥) → (kind_number m.item.kind ≡ word_kind → m.item.at + m.item.len ≤ n) → Passed xs v s n m.next
     passed_next is old =
         record {
           valid = step.valid;
@@ -227,7 +130,7 @@ module _ (xs : List ℕ) (v : ℕ) (s : Spot) (n : ℕ) where
           back = λ k w h. passed.back k w (step_join xs v t m step is k w (inr h));
         }
 
-    pub sought_end : n ≤ length xs → m.item.kind ≡ end_kind → Sought xs v s n (record { spot = t; low = length xs })
+    pub sought_end : n ≤ length xs → kind_number m.item.kind ≡ end_kind → Sought xs v s n (record { spot = t; low = length xs })
     sought_end most z =
         record { passed = passed; low = λ k w h. absurd (step_none xs v t m step z k w h); onward = most; most = omega arith }
 

@@ -4,99 +4,35 @@
 #![tactic(auto)]
 
 ghost use Rattle.std.specs.Prelude.{true, false, ◌⊎◌, ◌≡◌, ℕ, ◌+◌, ◌-◌, ◌*◌, ◌≤◌, ◌<◌, [], length};
-ghost use Rattle.facts.specs.Fact.{Tells, ◌≤?◌, ◌and◌};
-ghost use Rattle.items.specs.Items.{word_kind};
+ghost use Rattle.items.specs.Items.{word_kind, kind_number};
 ghost use Rattle.inside_pages.specs.Pages.{Paged};
 ghost use Rattle.inside_walk.specs.WholeWalk.{ahead, Valid};
 ghost use Rattle.inside_modules.specs.ModulesFit.{Fits};
 ghost use Rattle.inside_blocks.specs.Blocks.{entries_from};
 ghost use Rattle.audit_lay.specs.Lay.{value};
-ghost use Rattle.audit_window.specs.Window.{Has, Apart, Fitting, Done, Low, Passed, Sought, Draws, Drawn};
+ghost use Rattle.audit_fill_window.specs.Near.{Has};
+ghost use Rattle.audit_window.specs.Window.{Apart, Fitting, Passed, Sought, Draws, Drawn};
 
-use inside_blocks::Cursor;
-use inside_files::Place;
 use inside_pages::Page;
 use inside_rows::Module;
 use inside_walk::Spot;
-use items::Item;
+use items::{Item, Kind};
+use moves::Shift;
 
-// Where a window's walk starts, and from where on words may stand that are ahead of it.
+// Where a window's walk starts, and from where on words may stand that are ahead of it. A number and no Option: where nothing is known it is the
+// window's own start, from which the reader goes on alike.
 #[derive(Clone, Copy)]
 pub struct Found {
     pub spot: Spot,
     pub low: usize,
 }
 
-// Whether all of the module is passed.
-fn is_done(m: Module, c: Cursor) -> bool
-    ensures { result ≡ true → Done m c }
-{
-    if c.heads != 0 {
-        return false;
-    }
-    if c.left != 0 {
-        return false;
-    }
-    if c.used < m.size {
-        return false;
-    }
-    true
-}
-
-fn lower(x: usize, y: usize) -> usize
-    ensures { (result ≤ x) × (result ≤ y) }
-{
-    if x < y {
-        return x;
-    }
-    y
-}
-
-// The next section's place, or the next file's.
-fn next_part(p: Place) -> usize
-    ensures { (p.at < p.end → result ≤ p.at) × (result ≤ p.file) }
-{
-    if p.at < p.end {
-        return lower(p.at, p.file);
-    }
-    p.file
-}
-
-// A place below which nothing ahead of s starts.
-fn low_of(s: Spot) -> usize
-    ensures { Low s result }
-{
-    let p = s.place;
-    let m = s.m;
-    let c = s.c;
-    let n = next_part(p);
-    if is_done(m, c) {
-        return n;
-    }
-    lower(m.lo, n)
-}
-
-// The same, from `from` on and up to `end`.
-fn start_of(s: Spot, from: usize, end: usize) -> usize
-    requires { from ≤ end }
-    ensures { (from ≤ result) × (result ≤ end) × ((result ≡ from) ⊎ Low s result) }
-{
-    let n = low_of(s);
-    if n <= from {
-        return from;
-    }
-    if end <= n {
-        return end;
-    }
-    n
-}
-
 // Whether x is a word that ends past `to`.
 fn ends_past(x: Item, to: usize) -> bool
     requires { x.at + x.len < 1099511627776 }
-    ensures { result ≡ false → x.kind ≡ word_kind → x.at + x.len ≤ to }
+    ensures { result ≡ false → kind_number x.kind ≡ word_kind → x.at + x.len ≤ to }
 {
-    if x.kind != items::WORD {
+    if x.kind != Kind::Word {
         return false;
     }
     if x.at + x.len <= to {
@@ -111,15 +47,11 @@ fn any_past(image: &[u8], m: Module, page: usize, at: usize, k: usize, to: usize
     ensures { result ≡ false → (i w : ℕ) → Has (entries_from image.now m page at k) i w → i + w ≤ to }
 {
     let q = inside_pages::page_of(image, m, page);
-    let mut p = at;
-    let mut left = k;
-    while left > 0 {
-        let x = inside_blocks::entry_on(image, m, q, p);
+    for i in 0..k {
+        let x = inside_blocks::entry_on(image, m, q, at + 2 * i);
         if ends_past(x, to) {
             return true;
         }
-        p += 2;
-        left -= 1;
     }
     false
 }
@@ -135,21 +67,21 @@ pub fn seek(image: &[u8], v: usize, s: Spot, from: usize) -> Found
         let t = inside_walk::step(image, v, spot);
         let x = t.item;
         let next = t.next;
-        if x.kind == items::END {
+        if x.kind == Kind::End {
             return Found {
                 spot,
                 low: image.len(),
             };
         }
         if ends_past(x, from) {
-            let low = start_of(spot, from, image.len());
+            let low = audit_fill_window::start_of(spot, from, image.len());
             return Found { spot, low };
         }
         let k = inside_walk::entries(next);
         let m = next.m;
         let c = next.c;
         if any_past(image, m, c.page, c.at, k, from) {
-            let least = start_of(next, from, image.len());
+            let least = audit_fill_window::start_of(next, from, image.len());
             return Found {
                 spot: next,
                 low: least,
@@ -159,29 +91,7 @@ pub fn seek(image: &[u8], v: usize, s: Spot, from: usize) -> Found
     }
 }
 
-fn either(a: bool, b: bool) -> bool
-    ensures { result ≡ false → (a ≡ false) × (b ≡ false) }
-{
-    if a {
-        return true;
-    }
-    b
-}
-
-// Whether each word that an entry of the page can name lies in its room, as in the middle of its data.
-fn is_whole(q: Page) -> bool
-    ensures { Tells result (q.floor ≤? 0 and 4104 ≤? q.room) }
-{
-    if q.floor != 0 {
-        return false;
-    }
-    if q.room < 4104 {
-        return false;
-    }
-    true
-}
-
-// Lays those of the k entries at `at` of this page that are words into the window, which has the n bytes from position `from` on; whether one of
+// Lays those of the k entries at `at` of this page that are words into the window, which stands for the positions from `from` on; whether one of
 // them ends past these.
 fn lay_each(
     image: &[u8],
@@ -189,29 +99,23 @@ fn lay_each(
     q: Page,
     at: usize,
     k: usize,
-    four: u32,
-    eight: u64,
+    d: Shift,
     window: &mut [u8],
     from: usize,
-    n: usize,
 ) -> bool
     requires fits { Fits image.now m × Paged image.now m q.page q × (q.page < 4294967296) × (at + 2 * k ≤ length image.now)
         × (length image.now ≤ 16777216) }
-    requires n_in_bounds { (n ≤ length window.old) × (from + n ≤ 16777216) }
-    ensures draws { Draws (value image.now four eight) (entries_from image.now m q.page at k) [] from n window.old window.new }
+    requires window_in_bounds { from + length window.old ≤ 16777216 }
+    ensures draws { Draws (value image.now d.four d.eight) (entries_from image.now m q.page at k) [] from (length window.old) window.old window.new }
     ensures window_len_unchanged { length window.new ≡ length window.old }
-    ensures w_bound { result ≡ false → (i w : ℕ) → Has (entries_from image.now m q.page at k) i w → i + w ≤ from + n }
+    ensures w_bound { result ≡ false → (i w : ℕ) → Has (entries_from image.now m q.page at k) i w → i + w ≤ from + length window.old }
 {
-    let to = from + n;
-    let mut e = at;
-    let mut left = k;
+    let to = from + window.len();
     let mut late = false;
-    while left > 0 {
-        let x = inside_blocks::entry_on(image, m, q, e);
-        late = either(late, ends_past(x, to));
-        audit_lay::lay_item(image, x, four, eight, window, from, n);
-        e += 2;
-        left -= 1;
+    for i in 0..k {
+        let x = inside_blocks::entry_on(image, m, q, at + 2 * i);
+        late |= ends_past(x, to);
+        audit_lay::lay_item(image, x, d, window, from);
     }
     late
 }
@@ -224,82 +128,61 @@ fn lay_entries(
     page: usize,
     at: usize,
     k: usize,
-    four: u32,
-    eight: u64,
+    d: Shift,
     window: &mut [u8],
     from: usize,
-    n: usize,
 ) -> bool
     requires fits { Fits image.now m × (page < 4294967296) × (at + 2 * k ≤ length image.now) × (length image.now ≤ 16777216) }
-    requires n_in_bounds { (n ≤ length window.old) × (from + n ≤ 16777216) }
-    ensures draws { Draws (value image.now four eight) (entries_from image.now m page at k) [] from n window.old
-        window.new }
+    requires window_in_bounds { from + length window.old ≤ 16777216 }
+    ensures draws { Draws (value image.now d.four d.eight) (entries_from image.now m page at k) [] from (length window.old) window.old window.new }
     ensures window_len_unchanged { length window.new ≡ length window.old }
-    ensures w_bound { result ≡ false → (i w : ℕ) → Has (entries_from image.now m page at k) i w → i + w ≤ from + n }
+    ensures w_bound { result ≡ false → (i w : ℕ) → Has (entries_from image.now m page at k) i w → i + w ≤ from + length window.old }
 {
     let q = inside_pages::page_of(image, m, page);
-    if is_whole(q) {
+    if audit_fill_window::is_whole(q) {
         if q.at + 4104 <= from {
             return false;
         }
-        if from + n <= q.at {
+        if from + window.len() <= q.at {
             return true;
         }
     }
-    lay_each(image, m, q, at, k, four, eight, window, from, n)
+    lay_each(image, m, q, at, k, d, window, from)
 }
 
-// The spot s, unless something that is passed before it starts too late.
-fn follow(late: bool, kept: Spot, s: Spot) -> Spot
-    ensures { (late ≡ true → result ≡ kept) × (late ≡ false → result ≡ s) }
-{
-    if late {
-        return kept;
-    }
-    s
-}
-
-// Lays all words ahead of s into the window, which has the n bytes from position `from` on: the walk stops where all that is ahead starts past
+// Lays all words ahead of s into the window, which stands for the positions from `from` on: the walk stops where all that is ahead starts past
 // them. Gives the spot up to which all words that are passed end by the last of these positions.
-pub fn fill(
-    image: &[u8],
-    v: usize,
-    s: Spot,
-    four: u32,
-    eight: u64,
-    window: &mut [u8],
-    from: usize,
-    n: usize,
-) -> Spot
+pub fn fill(image: &[u8], v: usize, s: Spot, d: Shift, window: &mut [u8], from: usize) -> Spot
     requires v_in_bounds { (v ≤ length image.now) × (length image.now ≤ 16777216) × Valid image.now v s × Apart (ahead image.now v s)
         × Fitting (length image.now) (ahead image.now v s) }
-    requires n_bound { (from + n ≤ 16777216) × (n ≤ length window.old) }
-    ensures drawn { Drawn (value image.now four eight) (ahead image.now v s) from n window.old window.new }
+    requires window_in_bounds { from + length window.old ≤ 16777216 }
+    ensures drawn { Drawn (value image.now d.four d.eight) (ahead image.now v s) from (length window.old) window.old window.new }
     ensures window_len_unchanged { length window.new ≡ length window.old }
-    ensures passed { Passed image.now v s (from + n) result }
+    ensures passed { Passed image.now v s (from + length window.old) result }
 {
-    let to = from + n;
+    let to = from + window.len();
     let mut spot = s;
-    let mut kept = s;
-    let mut late = false;
+    // The spot before what ends past these positions, once such is passed.
+    let mut kept: Option<Spot> = None;
     loop {
-        if to <= low_of(spot) {
-            return kept;
+        if to <= audit_fill_window::low_of(spot) {
+            return kept.unwrap_or(spot);
         }
         let t = inside_walk::step(image, v, spot);
         let x = t.item;
         let next = t.next;
-        if x.kind == items::END {
-            return kept;
+        if x.kind == Kind::End {
+            return kept.unwrap_or(spot);
         }
         let first = ends_past(x, to);
-        audit_lay::lay_item(image, x, four, eight, window, from, n);
+        audit_lay::lay_item(image, x, d, window, from);
         let k = inside_walk::entries(next);
         let m = next.m;
         let c = next.c;
-        let others = lay_entries(image, m, c.page, c.at, k, four, eight, window, from, n);
+        let others = lay_entries(image, m, c.page, c.at, k, d, window, from);
+        if first | others {
+            kept = Some(kept.unwrap_or(spot));
+        }
         spot = inside_walk::past(next, k);
-        late = either(late, either(first, others));
-        kept = follow(late, kept, spot);
     }
 }

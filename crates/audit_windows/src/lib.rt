@@ -9,32 +9,19 @@ ghost use Rattle.audit_fill_window.specs.Near.{Fitting, Onward, WentOn};
 
 use audit_fill_window::{Mark, Window};
 
-// The first mark from the i-th place of a window on, or the window's end.
+// The first mark from the i-th place of a window on, or the window's end: a place in both cases and no Option, since what the walk has passed
+// ends there.
 fn settle(marks: &[u8], from: usize, to: usize, i: usize) -> Mark
     requires { (from + i ≤ to) × (to ≤ from + length marks.now) × (to ≤ 16777216) }
     ensures { Settled marks.now from to i result }
 {
-    let n = to - from;
-    let j = audit_marks::first_mark(marks, i, n);
-    if j == n {
-        return Mark { at: to, width: 0 };
+    match audit_marks::first_mark(marks, i, to - from) {
+        Some(j) => Mark {
+            at: from + j,
+            width: audit_marks::width_at(marks, j),
+        },
+        None => Mark { at: to, width: 0 },
     }
-    let width = audit_marks::width_at(marks, j);
-    Mark {
-        at: from + j,
-        width,
-    }
-}
-
-// Where a window of `size` places from `from` on ends.
-fn end_of(from: usize, size: usize, end: usize) -> usize
-    requires { from ≤ end }
-    ensures { (from ≤ result) × (result ≤ end) × (result - from ≤ size) × (0 < size → from < end → from < result) }
-{
-    if end - from <= size {
-        return end;
-    }
-    from + size
 }
 
 // At the image's start: no window yet.
@@ -76,7 +63,7 @@ fn refill(image: &[u8], v: usize, marks: &mut [u8], q: Window) -> Window
 {
     let u = audit_fill_window::seek(image, v, q.spot, q.to);
     let from = u.low;
-    let to = end_of(from, marks.len(), image.len());
+    let to = image.len().min(from + marks.len());
     let n = to - from;
     audit_marks::clear(marks, n);
     let spot = audit_fill_window::fill(image, v, u.spot, from, n, marks);
@@ -95,20 +82,15 @@ fn go_on(marks: &[u8], at: usize, q: Window) -> Window
     requires { Fitting marks.now q.from q.to q.at q.width }
     ensures { WentOn marks.now at q result }
 {
-    let from = q.from;
-    let to = q.to;
-    let spot = q.spot;
     let p = Mark {
         at: q.at,
         width: q.width,
     };
-    let m = next_in(marks, from, to, p, at);
+    let m = next_in(marks, q.from, q.to, p, at);
     Window {
-        from,
-        to,
         at: m.at,
         width: m.width,
-        spot,
+        ..q
     }
 }
 

@@ -1,10 +1,11 @@
 -- What a call gives, by whether its answer has room.
 -- Assumes nothing.
-use Rattle.std.specs.Prelude.{ℕ, suc, ◌+◌, ◌-◌, ◌*◌, ◌^◌, ◌≤◌, ◌<◌, true, false, List, ◌≡◌, refl, ℤ, pos, negsuc, nat_abs, length, get_or, drop}
-use Rattle.std.proofs.Common.{arith, le-leb, ltb-true, drop-cons}
+use Rattle.std.specs.Prelude.{ℕ, suc, ◌+◌, ◌*◌, ◌≤◌, ◌<◌, List, ◌≡◌, refl, ℤ, pos, negsuc, length, get_or, drop, ◌-◌, ◌^◌, true, false, nat_abs}
+use Rattle.std.proofs.Common.{arith, le-leb, drop-cons, ltb-true}
 use Rattle.std.proofs.lemmas.Bool.{lt-leb}
-use Rattle.std.specs.Int.Signed.{lt_z}
 use Rattle.std.proofs.Math.Seq.{drop-length}
+use Rattle.std.specs.Int.{w64, cast_unsigned}
+use Rattle.std.specs.Int.Signed.{lt_z}
 use Rattle.facts.specs.Fact.{test}
 use Rattle.words.specs.Put.{put, put_all}
 use Rattle.c_answers.specs.Answers.{if_room, twos}
@@ -18,8 +19,7 @@ module _ {T : Type 0} (k : ℕ) (A : List ℕ) (x y : T) where
   unfolding if_room test
   short h = rw (lt-leb (8 * k) (length A) h)
 
--- ---- two's complement, by the sign
-
+-- a signed number in two's complement: below 0 its distance counted down from 2^64, else the number itself
 pub twos_below : (z : ℤ) → lt_z z (pos 0) ≡ true → (1 ≤ nat_abs z) × (twos z ≡ 2 ^ 64 - 1 - (nat_abs z - 1))
 unfolding twos
 twos_below (pos n) e = absurd (omega (arith, ltb-true n 0 e))
@@ -29,6 +29,12 @@ pub twos_above : (z : ℤ) → lt_z z (pos 0) ≡ false → twos z ≡ nat_abs z
 unfolding twos
 twos_above (pos n) e = refl
 twos_above (negsuc n) e = let z : ◌≡◌ {A = ℕ} 0 1 = cc in absurd (omega arith)
+
+-- the machine's own cast of a signed number
+pub cast_is : (z : ℤ) → cast_unsigned w64 z ≡ twos z
+unfolding twos
+cast_is (pos n) = refl
+cast_is (negsuc n) = refl
 
 -- ---- fields one after the other
 

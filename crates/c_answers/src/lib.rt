@@ -3,9 +3,11 @@
 
 ghost use Rattle.std.specs.Prelude.{◌≡◌, ◌*◌, ◌≤◌, length};
 ghost use Rattle.words.specs.Put.{put_all};
-ghost use Rattle.c_answers.specs.Answers.{twos, read_fields, move_fields, sheet_fields, setting_fields, audit_fields, list_fields};
+ghost use Rattle.c_answers.specs.Answers.{read_fields, move_fields, sheet_fields, setting_fields, audit_fields, list_fields};
+ghost use Rattle.c_answers.specs.Steps.{kind_fields};
 
 use answers::{Audited, Found, Listed, Moved, Reading};
+use handoff_step::Kind;
 use sheet::SheetReading;
 
 // The fields, eight bytes each, from the buffer's start on.
@@ -13,19 +15,18 @@ pub fn write_fields(answer: &mut [u8], fields: &[u64])
     requires { 8 * length fields.now ≤ length answer.old }
     ensures { answer.new ≡ put_all 8 answer.old 0 fields.now }
 {
-    let mut i = 0;
-    while i < fields.len() {
-        words::put64(answer, 8 * i, fields[i]);
-        i += 1;
+    for (i, field) in fields.iter().enumerate() {
+        words::put64(answer, 8 * i, *field);
     }
 }
 
-pub fn write_reading(answer: &mut [u8], r: Reading)
-    requires { 96 ≤ length answer.old }
-    ensures { answer.new ≡ put_all 8 answer.old 0 (read_fields r) }
+// The fields of each answer, for the function above. These are functions and no impls of `From`: an impl would have to stand in the crate of
+// the record, which knows nothing of C.
+pub fn read_fields(r: Reading) -> [u64; 12]
+    ensures { result ≡ read_fields r }
 {
     let identity = r.identity;
-    let fields = [
+    [
         r.number as u64,
         r.index as u64,
         r.H as u64,
@@ -38,57 +39,39 @@ pub fn write_reading(answer: &mut [u8], r: Reading)
         r.n as u64,
         r.E as u64,
         identity.extended as u64,
-    ];
-    write_fields(answer, &fields);
+    ]
 }
 
-// A signed number in two's complement.
-fn twos_complement(x: i64) -> u64
-    ensures { result ≡ twos x }
+#[tactic(auto, using(crate::specs::AnswerLaws::cast_is))]
+pub fn move_fields(r: Moved) -> [u64; 3]
+    ensures { result ≡ move_fields r }
 {
-    let m = move_answer::magnitude(x);
-    if x < 0 {
-        return 18446744073709551615 - (m - 1);
-    }
-    m
+    [r.number as u64, r.index as u64, r.distance.cast_unsigned()]
 }
 
-pub fn write_moved(answer: &mut [u8], r: Moved)
-    requires { 24 ≤ length answer.old }
-    ensures { answer.new ≡ put_all 8 answer.old 0 (move_fields r) }
-{
-    let fields = [r.number as u64, r.index as u64, twos_complement(r.distance)];
-    write_fields(answer, &fields);
-}
-
-pub fn write_sheet_reading(answer: &mut [u8], r: SheetReading)
-    requires { 40 ≤ length answer.old }
-    ensures { answer.new ≡ put_all 8 answer.old 0 (sheet_fields r) }
+pub fn sheet_fields(r: SheetReading) -> [u64; 5]
+    ensures { result ≡ sheet_fields r }
 {
     let k = r.identity;
-    let fields = [
+    [
         r.number as u64,
         r.count as u64,
         k.image,
         k.revision as u64,
         k.extended as u64,
-    ];
-    write_fields(answer, &fields);
+    ]
 }
 
-pub fn write_found(answer: &mut [u8], r: Found)
-    requires { 24 ≤ length answer.old }
-    ensures { answer.new ≡ put_all 8 answer.old 0 (setting_fields r) }
+pub fn setting_fields(r: Found) -> [u64; 3]
+    ensures { result ≡ setting_fields r }
 {
-    let fields = [r.number as u64, r.place, r.length];
-    write_fields(answer, &fields);
+    [r.number as u64, r.place, r.length]
 }
 
-pub fn write_audited(answer: &mut [u8], r: Audited)
-    requires { 56 ≤ length answer.old }
-    ensures { answer.new ≡ put_all 8 answer.old 0 (audit_fields r) }
+pub fn audit_fields(r: Audited) -> [u64; 7]
+    ensures { result ≡ audit_fields r }
 {
-    let fields = [
+    [
         r.number as u64,
         r.index as u64,
         r.base,
@@ -96,22 +79,19 @@ pub fn write_audited(answer: &mut [u8], r: Audited)
         r.strays as u64,
         r.bits as u64,
         r.explained as u64,
-    ];
-    write_fields(answer, &fields);
+    ]
 }
 
-pub fn write_listed(answer: &mut [u8], r: Listed)
-    requires { 40 ≤ length answer.old }
-    ensures { answer.new ≡ put_all 8 answer.old 0 (list_fields r) }
+pub fn list_fields(r: Listed) -> [u64; 5]
+    ensures { result ≡ list_fields r }
 {
-    let fields = [
+    [
         r.number as u64,
         r.index as u64,
         r.modules as u64,
         r.words as u64,
         r.entries as u64,
-    ];
-    write_fields(answer, &fields);
+    ]
 }
 
 // A kind of hand-off block as numbers: which, and its own data.
@@ -122,4 +102,49 @@ pub struct KindFields {
     pub b: u64,
     pub c: u64,
     pub d: u64,
+}
+
+// A kind with nothing of its own.
+fn plain(kind: u64) -> KindFields
+    ensures { result ≡ record { kind = kind; a = 0; b = 0; c = 0; d = 0 } }
+{
+    KindFields {
+        kind,
+        a: 0,
+        b: 0,
+        c: 0,
+        d: 0,
+    }
+}
+
+impl From<Kind> for KindFields {
+    ghost from_gives = { λ kind r. r ≡ kind_fields kind };
+
+    fn from(kind: Kind) -> KindFields {
+        match kind {
+            Kind::Nothing => plain(0),
+            Kind::Handoff => plain(1),
+            Kind::Resource {
+                code,
+                attributes,
+                start,
+                length,
+            } => KindFields {
+                kind: 2,
+                a: code as u64,
+                b: attributes as u64,
+                c: start,
+                d: length,
+            },
+            Kind::Guid { place, length } => KindFields {
+                kind: 3,
+                a: place as u64,
+                b: length as u64,
+                c: 0,
+                d: 0,
+            },
+            Kind::Unknown => plain(4),
+            Kind::End => plain(5),
+        }
+    }
 }

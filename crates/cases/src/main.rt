@@ -10,66 +10,68 @@ ghost use Rattle.std.specs.Prelude.{◌≤◌, IfOk, length};
 use std::io;
 use std::io::Read;
 
+// What a record asks.
+#[derive(Clone, Copy, Debug, PartialEq, Eq)]
+enum Call {
+    Read,
+    Setting,
+    Audit,
+    Release,
+    Mend,
+    MendBytes,
+}
+
+// A number that names no call: its record only stores its bytes.
+#[derive(Clone, Copy, Debug, PartialEq, Eq)]
+struct NoCall;
+
+impl TryFrom<usize> for Call {
+    type Error = NoCall;
+
+    fn try_from(number: usize) -> Result<Self, NoCall> {
+        match number {
+            1 => Ok(Call::Read),
+            4 => Ok(Call::Setting),
+            5 => Ok(Call::Audit),
+            7 => Ok(Call::Release),
+            8 => Ok(Call::Mend),
+            9 => Ok(Call::MendBytes),
+            _ => Err(NoCall),
+        }
+    }
+}
+
 #[derive(Clone, Copy)]
 struct Record {
     which: usize,
     at: usize,
     count: usize,
-    call: usize,
+    call: Option<Call>,
     len: usize,
     other: usize,
     a: usize,
     b: usize,
 }
 
-fn field(rt: &impl Print, n: u64) -> io::Result<()> {
-    rt.print(" ")?;
-    rt.print(n)
-}
-
-fn line(rt: &impl Print) -> io::Result<()> {
-    rt.print("\n")
-}
-
-fn names(rt: &impl Print, k: answers::Identity) -> io::Result<()> {
-    field(rt, k.image)?;
-    field(rt, k.revision as u64)
-}
-
-fn places(rt: &impl Print, r: answers::Reading) -> io::Result<()> {
-    field(rt, r.base)?;
-    field(rt, r.c as u64)?;
-    field(rt, r.z as u64)?;
-    field(rt, r.n as u64)?;
-    field(rt, r.E as u64)
-}
-
 fn show_reading(rt: &impl Print, r: answers::Reading) -> io::Result<()> {
-    rt.print(r.number)?;
-    field(rt, r.index as u64)?;
-    field(rt, r.H as u64)?;
-    field(rt, r.component as u64)?;
     let k = r.identity;
-    names(rt, k)?;
-    places(rt, r)?;
-    field(rt, k.extended as u64)?;
-    line(rt)
+    print!(rt;
+        "{} {} {} {} {} {}",
+        r.number, r.index, r.H, r.component, k.image, k.revision
+    )?;
+    println!(rt;
+        " {} {} {} {} {} {}",
+        r.base, r.c, r.z, r.n, r.E, k.extended
+    )
 }
 
 fn show_move(rt: &impl Print, m: answers::Moved) -> io::Result<()> {
-    rt.print(m.number)?;
-    field(rt, m.index as u64)?;
-    rt.print(" ")?;
-    if m.distance < 0 {
-        rt.print("-")?;
-    }
-    rt.print(move_answer::magnitude(m.distance))?;
-    line(rt)
+    println!(rt; "{} {} {}", m.number, m.index, m.distance)
 }
 
 fn show_bytes(rt: &impl Print, bytes: &[u8]) -> io::Result<()> {
     rt.write_all(bytes)?;
-    line(rt)
+    println!(rt)
 }
 
 fn call_release(
@@ -85,33 +87,28 @@ fn call_release(
 }
 
 fn call_setting(rt: &impl Print, image: &[u8], offset: u64, size: u64) -> io::Result<()> {
-    rt.print(setting::setting_number(image, offset, size))?;
+    let number = setting::setting_number(image, offset, size);
     let part = setting::setting(image, offset, size);
-    field(rt, part.len() as u64)?;
-    line(rt)?;
+    println!(rt; "{number} {}", part.len())?;
     show_bytes(rt, part)
 }
 
 fn show_audit(rt: &impl Print, a: answers::Audited) -> io::Result<()> {
-    rt.print(a.number)?;
-    field(rt, a.index as u64)?;
-    field(rt, a.base)?;
-    field(rt, a.settings as u64)?;
-    field(rt, a.strays as u64)?;
-    field(rt, a.bits as u64)?;
-    field(rt, u64::from(a.explained))?;
-    line(rt)
-}
-
-fn wide(x: u32) -> u64 {
-    x as u64
+    print!(rt; "{} {} {}", a.number, a.index, a.base)?;
+    println!(rt;
+        " {} {} {} {}",
+        a.settings,
+        a.strays,
+        a.bits,
+        u8::from(a.explained)
+    )
 }
 
 fn show_places(rt: &impl Print, places: &[u32]) -> io::Result<()> {
     for place in places {
-        field(rt, wide(*place))?;
+        print!(rt; " {place}")?;
     }
-    line(rt)
+    println!(rt)
 }
 
 // What the list holds before an audit.
@@ -128,38 +125,26 @@ fn fill(places: &mut [u32]) {
     }
 }
 
-fn audit_in(rt: &impl Print, vendor: &[u8], shipped: &[u8], places: &mut [u32]) -> io::Result<()> {
+// Nothing is done where the list has no `count` places.
+fn call_audit(rt: &impl Print, vendor: &[u8], shipped: &[u8], count: usize) -> io::Result<()> {
+    let mut list = [0u32; 4096];
+    let Some(places) = list.get_mut(..count) else {
+        return Ok(());
+    };
     fill(places);
     show_audit(rt, audit::audit(vendor, shipped, places))?;
     show_places(rt, places)
 }
 
-fn call_audit(rt: &impl Print, vendor: &[u8], shipped: &[u8], count: usize) -> io::Result<()> {
+fn call_mend(rt: &impl Print, vendor: &[u8], shipped: &mut [u8], count: usize) -> io::Result<()> {
     let mut list = [0u32; 4096];
-    if count <= 4096 {
-        audit_in(rt, vendor, shipped, &mut list[0..count])?;
-    }
-    Ok(())
-}
-
-fn mend_in(
-    rt: &impl Print,
-    vendor: &[u8],
-    shipped: &mut [u8],
-    places: &mut [u32],
-) -> io::Result<()> {
+    let Some(places) = list.get_mut(..count) else {
+        return Ok(());
+    };
     fill(places);
     show_audit(rt, mend::mend(vendor, shipped, places))?;
     show_places(rt, places)?;
     show_bytes(rt, shipped)
-}
-
-fn call_mend(rt: &impl Print, vendor: &[u8], shipped: &mut [u8], count: usize) -> io::Result<()> {
-    let mut list = [0u32; 4096];
-    if count <= 4096 {
-        mend_in(rt, vendor, shipped, &mut list[0..count])?;
-    }
-    Ok(())
 }
 
 fn call_mend_bytes(
@@ -181,21 +166,16 @@ fn answer(
     list: &mut [u8],
     k: Record,
 ) -> io::Result<()> {
-    let call = k.call;
-    if call == 1 {
-        show_reading(rt, reading::read(image))
-    } else if call == 4 {
-        call_setting(rt, image, k.a as u64, k.b as u64)
-    } else if call == 5 {
-        call_audit(rt, image, other, k.a)
-    } else if call == 7 {
-        call_release(rt, image, other, k.a as u64, list, k.b as u64 / 4294967296)
-    } else if call == 8 {
-        call_mend(rt, image, other, k.a)
-    } else if call == 9 {
-        call_mend_bytes(rt, image, other, list)
-    } else {
-        Ok(())
+    match k.call {
+        Some(Call::Read) => show_reading(rt, reading::read(image)),
+        Some(Call::Setting) => call_setting(rt, image, k.a as u64, k.b as u64),
+        Some(Call::Audit) => call_audit(rt, image, other, k.a),
+        Some(Call::Release) => {
+            call_release(rt, image, other, k.a as u64, list, k.b as u64 / 4294967296)
+        }
+        Some(Call::Mend) => call_mend(rt, image, other, k.a),
+        Some(Call::MendBytes) => call_mend_bytes(rt, image, other, list),
+        None => Ok(()),
     }
 }
 
@@ -214,16 +194,13 @@ fn read_full(input: &mut impl Read, buffer: &mut [u8]) -> io::Result<usize>
     Ok(done)
 }
 
-// The bytes of a record go into a buffer.
+// The bytes of a record go into a buffer, if it has room for them there.
 fn store(input: &mut impl Read, buffer: &mut [u8], at: usize, count: usize) -> io::Result<()> {
-    if buffer.len() < at {
-        return Ok(());
+    if let Some(rest) = buffer.get_mut(at..) {
+        if let Some(part) = rest.get_mut(..count) {
+            read_full(input, part)?;
+        }
     }
-    if buffer.len() - at < count {
-        return Ok(());
-    }
-    let end = at + count;
-    read_full(input, &mut buffer[at..end])?;
     Ok(())
 }
 
@@ -232,7 +209,7 @@ fn record_of(head: &[u8; 40]) -> Record {
         which: words::le32(head, 0),
         at: words::le32(head, 4),
         count: words::le32(head, 8),
-        call: words::le32(head, 12),
+        call: Call::try_from(words::le32(head, 12)).ok(),
         len: words::le32(head, 16),
         other: words::le32(head, 20),
         a: words::le64(head, 24),
@@ -250,12 +227,13 @@ fn share(k: Record, which: usize) -> usize {
 
 // How long the list in buffer 2 is: a release and a mending with bytes have it in the low half of b.
 fn list_length(k: Record) -> usize {
-    if k.call == 7 || k.call == 9 {
-        return k.b % 4294967296;
+    match k.call {
+        Some(Call::Release | Call::MendBytes) => k.b % 4294967296,
+        _ => 0,
     }
-    0
 }
 
+// Nothing is asked where a buffer is shorter than the record says.
 fn take(
     rt: &impl Print,
     input: &mut impl Read,
@@ -267,25 +245,16 @@ fn take(
     store(input, first, k.at, share(k, 0))?;
     store(input, second, k.at, share(k, 1))?;
     store(input, third, k.at, share(k, 2))?;
-    let list = list_length(k);
-    if third.len() < list {
+    let Some(image) = first.get_mut(..k.len) else {
         return Ok(());
-    }
-    let len = k.len;
-    let other = k.other;
-    if first.len() < len {
+    };
+    let Some(other) = second.get_mut(..k.other) else {
         return Ok(());
-    }
-    if second.len() < other {
+    };
+    let Some(list) = third.get_mut(..list_length(k)) else {
         return Ok(());
-    }
-    answer(
-        rt,
-        &mut first[0..len],
-        &mut second[0..other],
-        &mut third[0..list],
-        k,
-    )
+    };
+    answer(rt, image, other, list, k)
 }
 
 // One record, or false at the end of them.

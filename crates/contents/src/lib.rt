@@ -73,11 +73,9 @@ fn fill_patches(image: &[u8], places: &mut [u8], r: Reading)
 {
     let n = r.n;
     let t = r.E - 4 * n;
-    let mut i = 0;
-    while i < n {
+    for i in 0..n {
         let at = table::spot_at(image, t, i);
         words::put32(places, 4 * i + 4, inside_list::entry_of(8, at));
-        i += 1;
     }
 }
 

@@ -8,7 +8,6 @@ use Rattle.header.specs.Base.{legal_base}
 use Rattle.reading_rules.specs.Reading.{Read2}
 use Rattle.audit.specs.Audit.{shipped_base, differing, auditing}
 use Rattle.demands.specs.Editions.{read_too}
-use Rattle.demands.specs.Explains.{Explains}
 use Rattle.demands.specs.Explained.{explains_base, explains_told, told_always}
 use Rattle.demands.specs.Made.{Made}
 use Rattle.demands.specs.MadeLaws.{made_explains}

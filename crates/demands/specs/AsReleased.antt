@@ -5,7 +5,6 @@ use Rattle.std.specs.Prelude.{ℕ, List, ◌≡◌}
 use Rattle.words.specs.Le.{Bytes}
 use Rattle.answers.specs.declared.Moved.{Moved}
 use Rattle.release.specs.Release.{Releases}
-use Rattle.audit_count.specs.Differences.{settings, strays}
 use Rattle.answers.specs.declared.Audited.{Audited}
 use Rattle.audit.specs.Audit.{Audits}
 

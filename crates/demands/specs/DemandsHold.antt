@@ -11,7 +11,7 @@ use Rattle.reading_rules.specs.Reading.{Read, Older, Read2}
 use Rattle.reading_rules.specs.NumbersLaws.{numbered}
 use Rattle.answers.specs.declared.Moved.{Moved}
 use Rattle.sheet.specs.declared.SheetReading.{SheetReading}
-use Rattle.sheet.specs.Sheet.{offset, size, sheet_fits}
+use Rattle.sheet.specs.Sheet.{sheet_fits}
 use Rattle.sheet.specs.ReadSheet.{sheet_reading}
 use Rattle.setting.specs.Theorems.{lookup_numbered}
 use Rattle.release.specs.Release.{releasing}

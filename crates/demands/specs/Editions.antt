@@ -2,11 +2,10 @@
 -- and that the reading for such images is one.
 -- Assumes nothing.
 use Rattle.std.specs.Prelude.{ℕ, ◌+◌, List, ◌≡◌}
-use Rattle.std.proofs.Common.{sym, ◌∙◌}
-use Rattle.std.proofs.Math.Path.{ap}
+use Rattle.std.proofs.Common.{sym, ◌∙◌, ap}
 use Rattle.words.specs.Le.{le}
 use Rattle.answers.specs.declared.Reading.{Reading}
-use Rattle.reading_rules.specs.Reading.{reading, Read, reading2, Read2, Reads2}
+use Rattle.reading_rules.specs.Reading.{Read, reading2, Read2, Reads2}
 use Rattle.reading_rules.specs.Edition.{later_of, same_reading}
 use Rattle.move_image.specs.Moving.{move_to, moved_image}
 use Rattle.audit.specs.Audit.{shipped_base, reference, told_by}

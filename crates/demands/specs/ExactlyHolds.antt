@@ -1,10 +1,8 @@
 -- Demand 1, "exactly then", holds of every call, by one law over rules and one for a call that reads first.
 -- Assumes nothing.
-use Rattle.std.specs.Prelude.{ℕ, ◌+◌, ◌*◌, ◌/◌, Bool, true, false, cond, List, ◌≡◌, eqb}
-use Rattle.std.proofs.Math.Path.{refl}
+use Rattle.std.specs.Prelude.{ℕ, ◌+◌, ◌*◌, ◌/◌, Bool, true, false, cond, List, ◌≡◌, eqb, refl, length}
 use Rattle.std.proofs.Common.{sym, ap, ◌∙◌, arith}
 use Rattle.std.proofs.Math.Decide.{ℕ_discrete}
-use Rattle.std.proofs.Math.ListN.{length}
 use Rattle.facts.specs.Fact.{◌≤?◌, ◌≡?◌, deny, Holds, test}
 use Rattle.facts.specs.FactLaws.{passes, fails}
 use Rattle.facts.specs.Rules.{Rules, run}

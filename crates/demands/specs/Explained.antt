@@ -1,12 +1,8 @@
 -- Which positions an audit finds, what it counts, and demand 3: what "explained" says. All of it is said of the answer that the promises of
 -- `audit` and `audit_bytes` cite, with room for n entries.
 -- Assumes nothing.
-use Rattle.std.specs.Prelude.{◌≡◌, true, false, length, get_or, take, drop}
-use Rattle.std.proofs.Math.Path.{refl, ap}
-use Rattle.std.proofs.Common.{sym, ◌∙◌, inl, inr, length-take, length-drop, ext_get_or, get_or-take, get_or-drop}
-use mathlib.Core.List.{List, [], ◌∷◌}
-use Prim.Native.Nat.{ℕ, zero, suc, ◌+◌, ◌-◌, ◌≤◌, ◌<◌}
-use native.Mathlib.Omega.{arith}
+use Rattle.std.specs.Prelude.{◌≡◌, true, false, length, get_or, take, drop, refl, List, [], ◌∷◌, ℕ, zero, suc, ◌+◌, ◌-◌, ◌≤◌, ◌<◌}
+use Rattle.std.proofs.Common.{ap, sym, ◌∙◌, inl, inr, length-take, length-drop, ext_get_or, get_or-take, get_or-drop, arith}
 use Rattle.std.proofs.Math.Decide.{dec_lt, ℕ_discrete}
 use Rattle.std.proofs.Math.ListN.{get_or-eq_default}
 use Rattle.facts.specs.Fact.{Fact, Holds, ◌≤?◌, ◌≡?◌, ◌and◌, test}

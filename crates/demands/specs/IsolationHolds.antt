@@ -1,12 +1,8 @@
 -- Request #106: isolation, nobody's bytes and what a move shows hold.
 -- Assumes nothing.
-use Rattle.std.specs.Prelude.{ℕ, zero, suc, ◌+◌, ◌-◌, ◌%◌, ◌^◌, ◌≤◌, ◌<◌, Bool, cond, ◌⊎◌, ◌≡◌, length, get_or}
-use Rattle.std.proofs.Math.Bool.{true, false}
-use mathlib.Core.List.{List, [], ◌∷◌}
+use Rattle.std.specs.Prelude.{ℕ, zero, suc, ◌+◌, ◌-◌, ◌%◌, ◌^◌, ◌≤◌, ◌<◌, Bool, cond, ◌⊎◌, ◌≡◌, length, get_or, true, false, List, [], ◌∷◌, refl, eqb}
 use Rattle.std.proofs.Common.{inl, inr, sym, ap, ◌∙◌, arith, eqb-true}
-use Rattle.std.proofs.Math.Path.{refl}
 use Rattle.std.proofs.Math.Decide.{ℕ_discrete, dec_lt}
-use Rattle.std.proofs.Math.Dec.{eqb}
 use Rattle.facts.specs.Fact.{test, Holds}
 use Rattle.facts.specs.FactLaws.{holds, fails_not}
 use Rattle.words.specs.Le.{le, Bytes, Alike}

@@ -2,7 +2,7 @@
 -- base, owner 2 sets its own and moves, owner 1 tries owner 2's bytes and is refused with 24, then sets its own again.
 -- Assumes nothing.
 use Prim.{tt}
-use Rattle.std.specs.Prelude.{ℕ, ◌+◌, ◌≤◌, List, [], ◌∷◌, ◌++◌, ◌≡◌, refl, negsuc, length, get_or}
+use Rattle.std.specs.Prelude.{ℕ, ◌+◌, List, [], ◌∷◌, ◌++◌, ◌≡◌, refl, negsuc, length, get_or}
 use Rattle.std.proofs.Common.{sym, ap, ◌∙◌, arith}
 use Rattle.facts.specs.Fact.{test, all_below, Holds}
 use Rattle.facts.specs.FactLaws.{holds}

@@ -1,7 +1,7 @@
 -- The owner list that gives every setting of a region to owner 1.
 -- Assumes nothing.
-use Rattle.std.specs.Prelude.{ℕ, zero, suc, ◌+◌, ◌-◌, ◌*◌, ◌/◌, ◌%◌, ◌^◌, ◌≤◌, ◌<◌, List, [], ◌++◌, ◌≡◌, refl, length}
-use Rattle.std.proofs.Common.{inl, sym, ap, ◌∙◌, arith}
+use Rattle.std.specs.Prelude.{ℕ, zero, suc, ◌-◌, ◌≤◌, ◌<◌, List, [], ◌++◌, ◌≡◌, refl, length}
+use Rattle.std.proofs.Common.{inl, ◌∙◌, arith}
 use Rattle.facts.specs.Fact.{Holds}
 use Rattle.words.specs.Le.{le}
 use Rattle.words.specs.Number.{number}

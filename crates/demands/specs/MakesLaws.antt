@@ -1,11 +1,9 @@
 -- What explains a file is made by one release.
 -- Assumes nothing.
-use Rattle.std.specs.Prelude.{ℕ, ◌+◌, ◌-◌, ◌^◌, ◌≤◌, ◌<◌, List, [], ◌≡◌, refl, take, drop}
-use Rattle.std.proofs.Common.{inl, inr, sym, ◌∙◌, length-drop, ext_get_or, get_or-take, get_or-drop, length-take-le}
-use Rattle.std.proofs.Math.Path.{ap}
-use native.Mathlib.Omega.{arith}
+use Rattle.std.specs.Prelude.{ℕ, ◌+◌, ◌-◌, ◌^◌, ◌≤◌, ◌<◌, List, [], ◌≡◌, refl, take, drop, length, get_or}
+use Rattle.std.proofs.Common.{inl, inr, sym, ◌∙◌, length-drop, ext_get_or, get_or-take, get_or-drop, length-take-le, ap, arith}
 use Rattle.std.proofs.Math.Decide.{dec_lt}
-use Rattle.std.proofs.Math.ListN.{length, get_or, get_or-eq_default}
+use Rattle.std.proofs.Math.ListN.{get_or-eq_default}
 use Rattle.facts.specs.Fact.{Holds}
 use Rattle.words.specs.Le.{Bytes}
 use Rattle.words.specs.LeLaws.{le_lt}

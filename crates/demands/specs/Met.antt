@@ -1,7 +1,7 @@
 -- The demands speak of something: the small image meets their premises, and what they say of it is computed (`Small` in `release_laws` and
 -- `audit`).
 -- Assumes nothing.
-use Rattle.std.specs.Prelude.{ℕ, zero, suc, ◌+◌, ◌<◌, Bool, true, ◌&&◌, List, [], ◌∷◌, ◌≡◌, refl, ltb, length, get_or}
+use Rattle.std.specs.Prelude.{ℕ, zero, suc, Bool, true, ◌&&◌, List, [], ◌∷◌, ◌≡◌, refl, ltb, length, get_or}
 use Rattle.std.proofs.Common.{sym, ap, ◌∙◌, arith, ltb-true}
 use Rattle.facts.specs.Fact.{Holds}
 use Rattle.facts.specs.RulesLaws.{and_left, and_right}

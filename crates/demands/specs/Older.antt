@@ -17,7 +17,7 @@ use Rattle.answers.specs.declared.Listed.{Listed}
 use Rattle.contents.specs.Listing.{refused_list, Lists}
 use Rattle.answers.specs.declared.Audited.{Audited}
 use Rattle.audit_count.specs.Differences.{differences}
-use Rattle.audit.specs.Audit.{refused_audit, auditing, Audits, AuditsBytes}
+use Rattle.audit.specs.Audit.{refused_audit, auditing}
 
 -- ---- 28 READ-ONLY: what needs an edition 2 image refuses one of edition 1, whatever else is wrong, and changes nothing; the empty part of a
 -- lookup stands at the image's start

@@ -1,28 +1,26 @@
 -- Request #109: what is said of edition 1 images holds.
 -- Assumes nothing.
-use Rattle.std.specs.Prelude.{ℕ, ◌+◌, List, [], ◌≡◌, length}
+use Rattle.std.specs.Prelude.{ℕ, ◌+◌, List, ◌≡◌, length}
 use Rattle.std.proofs.Common.{sym, ap, ◌∙◌, arith}
 use Rattle.facts.specs.Fact.{◌≡?◌}
-use Rattle.facts.specs.Rules.{Rules, answer, rule, run}
+use Rattle.facts.specs.Rules.{answer, rule}
 use Rattle.header.specs.Base.{legal_base}
 use Rattle.answers.specs.declared.Reading.{Reading}
 use Rattle.answers.specs.AfterLaws.{after_accepted}
-use Rattle.reading_rules.specs.Reading.{refusal, reading, Older, reading2, Read2}
+use Rattle.reading_rules.specs.Reading.{reading, Older, reading2, Read2}
 use Rattle.reading_rules.specs.Edition.{older_28}
 use Rattle.reading_rules.specs.FrameBelow.{older_frame}
 use Rattle.answers.specs.declared.Moved.{Moved}
 use Rattle.move_answer.specs.MoveAnswer.{refused_move}
 use Rattle.release.specs.Release.{releasing}
 use Rattle.release.specs.ReleaseLaws.{release_kept, release_unread}
-use Rattle.setting.specs.Setting.{setting_number}
 use Rattle.setting.specs.SettingLaws.{setting_unread, unread_place}
 use Rattle.answers.specs.declared.Listed.{Listed}
 use Rattle.contents.specs.Listing.{refused_list, contents}
 use Rattle.contents.specs.ListingLaws.{list_unread}
 use Rattle.contents.specs.Theorems.{contents_kept}
-use Rattle.answers.specs.declared.Audited.{Audited}
 use Rattle.audit_count.specs.Differences.{differences}
-use Rattle.audit.specs.Audit.{shipped_base, refused_audit, tally, auditing, reference, told_by, differing}
+use Rattle.audit.specs.Audit.{shipped_base, refused_audit, tally, auditing, differing}
 use Rattle.audit.specs.AuditLaws.{older_reference, older_settings, older_strays, older_bits}
 use Rattle.demands.specs.Older.{ReadOnly, Unjudged, Plain, plain_tally, plain_audit}
 

@@ -1,21 +1,19 @@
 -- Request #109: edition 1 images, computed: a volume of 176 bytes with the header file alone, whose section holds the header. They are read
 -- at every boundary of rules 4 and 5, and audited.
 -- Assumes nothing.
-use Rattle.std.specs.Prelude.{ℕ, true, false, List, [], ◌∷◌, ◌++◌, ◌≡◌, refl, length, set}
-use Rattle.std.proofs.Common.{sym, ap, ◌∙◌, arith}
-use Rattle.facts.specs.Fact.{Holds, test, all_below}
+use Rattle.std.specs.Prelude.{ℕ, true, false, List, [], ◌∷◌, ◌++◌, ◌≡◌, refl, set}
+use Rattle.std.proofs.Common.{ap, ◌∙◌}
+use Rattle.facts.specs.Fact.{test, all_below}
 use Rattle.facts.specs.First.{first_fault, first_from}
 use Rattle.facts.specs.Rules.{run}
 use Rattle.words.specs.Le.{le}
 use Rattle.words.specs.Put.{digit}
 use Rattle.words.specs.Number.{number, zeros}
 use Rattle.volume.specs.Volume.{sum_words, sum_bytes, file_sum}
-use Rattle.header.specs.Base.{legal_base}
 use Rattle.header.specs.Header.{component, extended_number}
 use Rattle.answers.specs.declared.Reading.{Reading}
-use Rattle.reading_rules.specs.Reading.{identity_at, accepted, older_accepted, rules, reading, f, p, Older}
+use Rattle.reading_rules.specs.Reading.{identity_at, older_accepted, rules, reading, f, p, Older}
 use Rattle.reading_rules.specs.Small.{volume, file, header}
-use Rattle.answers.specs.declared.Audited.{Audited}
 use Rattle.audit_count.specs.Differences.{differences}
 use Rattle.audit.specs.Audit.{auditing}
 use Rattle.demands.specs.Older.{plain_tally, plain_audit}

@@ -1,15 +1,13 @@
 -- A sheet that sets a whole settings part: one entry from 32 on, or none where the part is empty. With it, what is explained can be made.
 -- Assumes nothing.
-use Rattle.std.specs.Prelude.{ℕ, zero, suc, ◌+◌, ◌-◌, ◌*◌, ◌%◌, ◌^◌, ◌≤◌, ◌<◌, ◌≡◌, refl, length, get_or}
-use mathlib.Core.List.{List, [], ◌∷◌, ◌++◌}
-use Rattle.std.proofs.Common.{sym, ap, ◌∙◌, mod-eq_of_lt, length-append, get_or-append-add}
-use native.Mathlib.Omega.{arith}
+use Rattle.std.specs.Prelude.{ℕ, ◌+◌, ◌-◌, ◌^◌, ◌≤◌, ◌<◌, ◌≡◌, length, get_or, List, [], ◌++◌}
+use Rattle.std.proofs.Common.{◌∙◌, mod-eq_of_lt, length-append, get_or-append-add, arith}
 use Rattle.facts.specs.Fact.{Holds}
 use Rattle.words.specs.Le.{le, Bytes}
 use Rattle.words.specs.Number.{number}
 use Rattle.words.specs.NumberLaws.{length_number, le_front, le_back, le_number, bytes_append, bytes_number}
 use Rattle.answers.specs.declared.Identity.{Identity}
-use Rattle.sheet.specs.Sheet.{sheet_identity, count, offset, size, position, body_at, contents_fit, bodies_fit, same_identity, field_fits, Sound}
+use Rattle.sheet.specs.Sheet.{sheet_identity, count, offset, size, position, body_at, same_identity, Sound}
 
 -- a number that stands first
 pub at_number : (k w : ℕ) (b : List ℕ) → w < 256 ^ k → le k (number k w ++ b) 0 ≡ w

@@ -1,9 +1,11 @@
 -- The digest word by word, the answer and the buffer case by case.
 -- Assumes nothing.
-use Rattle.std.specs.Prelude.{ℕ, suc, ◌+◌, ◌/◌, ◌%◌, ◌^◌, ◌≤◌, ◌<◌, List, [], ◌∷◌, ◌++◌, ◌≡◌, set, drop}
+use Rattle.std.specs.Prelude.{ℕ, ◌+◌, ◌-◌, ◌/◌, ◌%◌, ◌^◌, ◌≤◌, ◌<◌, List, [], ◌∷◌, ◌++◌, ◌≡◌, take, drop, length}
 use Rattle.std.proofs.Common.{sym, ap, ◌∙◌, arith, zero-add, length-append}
-use Rattle.std.proofs.Math.ListN.{length}
+use Rattle.std.specs.Int.{w32, to_be_bytes}
 use Rattle.std.proofs.lemmas.List.Edits.{sets-eq}
+use borrow.Rule.Slice.PartMut.{put_mid}
+use Rattle.std.proofs.lemmas.Slice.{put_mid-paste}
 use Rattle.facts.specs.Fact.{◌≤?◌}
 use Rattle.facts.specs.FactLaws.{passes, fails}
 use Rattle.facts.specs.Rules.{run}
@@ -26,15 +28,20 @@ big_four w =
     let e : w / 1 % 256 ≡ w % 256 = omega arith in
     ap (λ (x : ℕ). w / 16777216 % 256 ∷ w / 65536 % 256 ∷ w / 256 % 256 ∷ x ∷ []) e
 
-pub wrote_word : (l : List ℕ) (at w : ℕ)
-    → Wrote l
-    (set (set (set (set l at (w / 16777216 % 256)) (at + 1) (w / 65536 % 256)) (at + 2) (w / 256 % 256)) (at + 3) (w % 256)) at (big 4 w)
-    (at + 4)
-wrote_word l at w =
-    let a : at + 1 ≡ suc at = omega arith in
-    let b : at + 2 ≡ suc (suc at) = omega arith in
-    let c : at + 3 ≡ suc (suc (suc at)) = omega arith in
-    record { bytes = rw (big_four w, a, b, c); after = ap (λ (n : ℕ). at + n) (sym (length_big 4 w)) }
+-- a word's bytes in the place of four
+pub wrote_word : (l : List ℕ) (at w : ℕ) (ys : List ℕ) → at + 4 ≤ length l → ys ≡ to_be_bytes w32 w
+    → Wrote l (put_mid at (at + 4 - at) l ys) at (big 4 w) (at + 4)
+wrote_word l at w ys h e =
+    let n : length (big 4 w) ≡ 4 = length_big 4 w in
+    let whole : take 4 (big 4 w) ≡ big 4 w = rw (big_four w) in
+    record {
+      bytes =
+          put_mid-paste at (at + 4 - at) l ys (big 4 w) 4 (e ∙ sym (big_four w)) (omega arith) (sym n)
+          ∙ ap (λ (x : List ℕ). take at l ++ x ++ drop (at + 4) l) whole
+          ∙ ap (λ (j : ℕ). take at l ++ big 4 w ++ drop (at + j) l) (sym n)
+          ∙ sym (sets-eq (big 4 w) l at (omega (arith, n)));
+      after = ap (λ (j : ℕ). at + j) (sym n);
+    }
 
 length_bytes : (v : Eight) → length (bytes_of v) ≡ 32
 unfolding bytes_of

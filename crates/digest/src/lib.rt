@@ -4,7 +4,7 @@
 ghost use Rattle.std.specs.Prelude.{◌≡◌, ◌+◌, ◌≤◌, length};
 ghost use Rattle.text_lines.specs.Lines.{Wrote};
 ghost use Rattle.digest_message.specs.Message.{big};
-ghost use Rattle.digest.specs.Digest.{bytes_of, Digests};
+ghost use Rattle.digest.specs.Digest.{bytes_of, refusal_number, outcome_number, Digests};
 
 use digest_rounds::Eight;
 
@@ -13,10 +13,7 @@ fn put_word(out: &mut [u8], at: usize, w: u32) -> usize
     requires { at + 4 ≤ length out.old }
     ensures { Wrote out.old out.new at (big 4 w) result × (result ≡ at + 4) }
 {
-    out[at] = (w / 16777216 % 256) as u8;
-    out[at + 1] = (w / 65536 % 256) as u8;
-    out[at + 2] = (w / 256 % 256) as u8;
-    out[at + 3] = (w % 256) as u8;
+    out[at..at + 4].copy_from_slice(&w.to_be_bytes());
     at + 4
 }
 
@@ -35,17 +32,44 @@ fn put_words(out: &mut [u8], v: Eight) -> usize
     put_word(out, h, v.h)
 }
 
-// The digest of the bytes, into the first 32 of `out`; or a refusal, and nothing is changed.
-pub fn sha256(bytes: &[u8], out: &mut [u8]) -> u32
-    ensures { Digests bytes.now out.old result out.new }
-{
-    if out.len() < 32 {
-        return 100;
+// How many bytes a digest has.
+const DIGEST_LEN: usize = 32;
+
+// The most that a message may have, 2^61 - 1.
+const LONGEST: usize = 2305843009213693951;
+
+// Why there is no digest.
+#[derive(Clone, Copy, Debug, PartialEq, Eq)]
+pub enum Refusal {
+    // The lent buffer is shorter than 32 bytes.
+    NoRoom,
+    // The message is longer than the longest that the standard has a digest for.
+    TooLong,
+}
+
+impl Refusal {
+    // Its number in include/pajurenda.h.
+    pub fn number(self) -> u32
+        ensures { result ≡ refusal_number self }
+    {
+        match self {
+            Refusal::NoRoom => 100,
+            Refusal::TooLong => 1,
+        }
     }
-    if 2305843009213693951 < bytes.len() {
-        return 1;
+}
+
+// The digest of the bytes, into the first 32 of `out`; or a refusal, and nothing is changed.
+pub fn sha256(bytes: &[u8], out: &mut [u8]) -> Result<(), Refusal>
+    ensures { Digests bytes.now out.old (outcome_number result) out.new }
+{
+    if out.len() < DIGEST_LEN {
+        return Err(Refusal::NoRoom);
+    }
+    if LONGEST < bytes.len() {
+        return Err(Refusal::TooLong);
     }
     let v = digest_message::hash(bytes);
     put_words(out, v);
-    0
+    Ok(())
 }

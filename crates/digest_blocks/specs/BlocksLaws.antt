@@ -1,6 +1,6 @@
 -- A block after those before it, and that the blocks' bytes are all that counts.
 -- Assumes nothing.
-use Rattle.std.specs.Prelude.{ℕ, zero, suc, ◌+◌, ◌*◌, ◌≤◌, ◌<◌, List, ◌≡◌, refl, get_or}
+use Rattle.std.specs.Prelude.{ℕ, zero, suc, ◌+◌, ◌*◌, ◌<◌, List, ◌≡◌, refl, get_or}
 use Rattle.std.proofs.Common.{sym, ap, ◌∙◌, arith, add-one}
 use Rattle.digest_rounds.specs.declared.Eight.{Eight}
 use Rattle.digest_rounds.specs.Rounds.{K, rounds, plus}

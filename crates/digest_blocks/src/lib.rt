@@ -22,10 +22,8 @@ pub fn chain(k: &[u32; 64], v: Eight, s: &[u8], n: usize) -> Eight
     ensures { result ≡ chained v s.now n }
 {
     let mut x = v;
-    let mut i = 0;
-    while i < n {
+    for i in 0..n {
         x = compress(k, x, s, 64 * i);
-        i += 1;
     }
     x
 }

@@ -1,6 +1,6 @@
 -- Examples of the standard's, computed by the checker: the empty message, one block, two blocks.
 -- Assumes nothing.
-use Rattle.std.specs.Prelude.{ℕ, List, [], ◌∷◌, ◌≡◌, refl}
+use Rattle.std.specs.Prelude.{ℕ, List, ◌≡◌, refl}
 use Rattle.digest_words.specs.Functions.{Ch, Maj, Σ₀, Σ₁, σ₀, σ₁}
 use Rattle.digest_rounds.specs.Rounds.{K, T₁, T₂, turned, rounds, plus}
 use Rattle.digest_schedule.specs.Schedule.{word, loaded, next, expanded, scheduled}

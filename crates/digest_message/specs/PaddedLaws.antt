@@ -1,11 +1,11 @@
 -- The padded message byte by byte.
 -- Assumes nothing.
-use Rattle.std.specs.Prelude.{ℕ, zero, suc, ◌+◌, ◌-◌, ◌*◌, ◌/◌, ◌%◌, ◌^◌, ◌≤◌, ◌<◌, List, [], ◌∷◌, ◌++◌, ◌≡◌, refl, get_or, set, replicate}
-use Rattle.std.proofs.Common.{sym, ap, ◌∙◌, arith, length-append, get_or-set_same, get_or-set_other}
+use Rattle.std.specs.Prelude.{ℕ, zero, suc, ◌+◌, ◌-◌, ◌*◌, ◌/◌, ◌%◌, ◌^◌, ◌≤◌, ◌<◌, List, ◌∷◌, ◌++◌, ◌≡◌, refl, get_or, set, replicate, length}
+use Rattle.std.proofs.Common.{ap, ◌∙◌, arith, length-append, get_or-set_same, get_or-set_other, get_or-append-add}
 use Rattle.std.proofs.Math.Decide.{dec_le}
-use Rattle.std.proofs.Math.ListN.{length, length-replicate, get_or-append}
+use Rattle.std.proofs.Math.ListN.{length-replicate, get_or-append}
 use Rattle.std.proofs.lemmas.List.{get_or-replicate}
-use Rattle.std.proofs.Math.Seq.{get_or-append_seam, get_or-append-add}
+use Rattle.std.proofs.Math.Seq.{get_or-append_seam}
 use Rattle.digest_message.specs.Message.{big, zeros, padded}
 
 pub apart : {n p : ℕ} → n ≤ p → (p ≡ n → ⊥) → n < p

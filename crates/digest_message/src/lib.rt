@@ -1,4 +1,5 @@
-// FIPS 180-4, sections 5.1.1, 5.3.3 and 6.2.2: a message of whole bytes is padded to whole blocks and hashed block by block.
+// FIPS 180-4, sections 5.1.1, 5.3.3 and 6.2.2: a message of whole bytes is padded to whole blocks and hashed block by block. Four functions
+// ask that it is shorter than 2^61 bytes: a struct around the slice would say so once, but each caller would have to make one of its bytes.
 #![tactic(auto)]
 
 ghost use Rattle.std.specs.Prelude.{◌≡◌, ◌+◌, ◌*◌, ◌/◌, ◌^◌, ◌≤◌, ◌<◌, length, get_or};
@@ -34,10 +35,8 @@ fn block(s: &[u8], at: usize) -> [u8; 64]
     ensures { (length result ≡ 64) × Holding s.now at result 64 }
 {
     let mut t = [0u8; 64];
-    let mut i = 0;
-    while i < 64 {
-        t[i] = padded_byte(s, at + i);
-        i += 1;
+    for (i, byte) in t.iter_mut().enumerate() {
+        *byte = padded_byte(s, at + i);
     }
     t
 }
@@ -49,11 +48,9 @@ fn finish(k: &[u32; 64], v: Eight, s: &[u8]) -> Eight
 {
     let n = (s.len() + 8) / 64 + 1;
     let mut x = v;
-    let mut i = s.len() / 64;
-    while i < n {
+    for i in s.len() / 64..n {
         let t = block(s, 64 * i);
         x = digest_blocks::compress(k, x, &t, 0);
-        i += 1;
     }
     x
 }

@@ -5,7 +5,8 @@ ghost use Rattle.std.specs.Prelude.{◌≡◌, ◌+◌, ◌≤◌};
 ghost use Rattle.digest_rounds.specs.Rounds.{T₁, T₂, turned, K, rounds, plus};
 ghost use Rattle.digest_rounds.specs.RoundsLaws.{four_turned};
 
-// The eight working variables, and the eight words of a hash value.
+// The eight working variables, and the eight words of a hash value, by the standard's own letters: in an array they would have numbers, and
+// a round and the definitions of specs/ would no longer read as the standard does.
 #[derive(Clone, Copy)]
 pub struct Eight {
     pub a: u32,
@@ -88,10 +89,8 @@ pub fn all(k: &[u32; 64], s: Eight, w: &[u32; 64]) -> Eight
     ensures { result ≡ rounds k.now s w.now 64 }
 {
     let mut v = s;
-    let mut t = 0;
-    while t < 64 {
+    for t in (0..64).step_by(4) {
         v = four(k, v, w, t);
-        t += 4;
     }
     v
 }

@@ -1,9 +1,7 @@
 -- The schedule place by place, and that it is one of the block's bytes alone.
 -- Assumes nothing.
-use Prim.Native.Nat.{ℕ, zero, suc, ◌+◌, ◌*◌, ◌≤◌, ◌<◌}
-use Rattle.std.specs.Prelude.{List, ◌≡◌, get_or, set, replicate}
-use Rattle.std.proofs.Math.Path.{refl}
-use Rattle.std.proofs.Common.{sym, arith, add_assoc, add-one}
+use Rattle.std.specs.Prelude.{ℕ, zero, suc, ◌+◌, ◌-◌, ◌*◌, ◌≤◌, ◌<◌, List, ◌≡◌, refl, get_or, set, replicate}
+use Rattle.std.proofs.Common.{sym, subst, arith, add_assoc, add-one}
 use Rattle.digest_schedule.specs.Schedule.{word, loaded, next, grown, expanded, scheduled}
 
 pub loaded_none : (ws xs : List ℕ) (at : ℕ) → loaded ws xs at 0 ≡ ws
@@ -26,9 +24,19 @@ expanded_more : (ws : List ℕ) (i : ℕ) → expanded ws (i + 1) ≡ grown (exp
 unfolding expanded
 expanded_more ws i = rw add-one
 
-pub expanded_turn : (ws : List ℕ) (i : ℕ) (w : List ℕ) (x : ℕ) → w ≡ expanded ws i → x ≡ next w (i + 16)
+expanded_turn : (ws : List ℕ) (i : ℕ) (w : List ℕ) (x : ℕ) → w ≡ expanded ws i → x ≡ next w (i + 16)
     → set w (i + 16) x ≡ expanded ws (i + 1)
 expanded_turn ws i w x e f = rw (f, e) (sym (expanded_more ws i))
+
+-- the word of place t is written, after those of 16 to t - 1
+pub expanded_at : (ws : List ℕ) (t : ℕ) (w : List ℕ) (x : ℕ) → 16 ≤ t → w ≡ expanded ws (t - 16) → x ≡ next w t
+    → set w t x ≡ expanded ws (t + 1 - 16)
+expanded_at ws t w x h e f =
+    let i = t - 16 in
+    let place : t ≡ i + 16 = omega arith in
+    let turn : t + 1 - 16 ≡ i + 1 = omega arith in
+    let write = expanded_turn ws i w x e (subst (λ (n : ℕ). x ≡ next w n) place f) in
+    rw turn (subst (λ (n : ℕ). set w n x ≡ expanded ws (i + 1)) (sym place) write)
 
 -- two blocks with the same bytes
 module _ (xs ys : List ℕ) (at bt : ℕ) (same : (i : ℕ) → i < 64 → get_or xs (at + i) 0 ≡ get_or ys (bt + i) 0) where

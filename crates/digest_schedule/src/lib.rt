@@ -1,22 +1,15 @@
 // FIPS 180-4, section 6.2.2 (step 1): the message schedule of a block.
 #![tactic(auto)]
 
-ghost use Rattle.std.specs.Prelude.{◌≡◌, ◌+◌, ◌≤◌, ◌<◌, length, get_or};
+ghost use Rattle.std.specs.Prelude.{◌≡◌, ◌+◌, ◌≤◌, ◌<◌, length};
 ghost use Rattle.digest_schedule.specs.Schedule.{word, loaded, next, expanded, scheduled};
-
-fn byte(s: &[u8], at: usize) -> u32
-    requires { at < length s.now }
-    ensures { (result ≡ get_or s.now at 0) × (result < 256) }
-{
-    s[at] as u32
-}
 
 // The word at `at`, its highest byte first.
 fn load(s: &[u8], at: usize) -> u32
     requires { at + 4 ≤ length s.now }
     ensures { result ≡ word s.now at }
 {
-    byte(s, at) * 16777216 + byte(s, at + 1) * 65536 + byte(s, at + 2) * 256 + byte(s, at + 3)
+    u32::from_be_bytes([s[at], s[at + 1], s[at + 2], s[at + 3]])
 }
 
 // The block's 16 words into the first places.
@@ -24,10 +17,8 @@ fn fill(w: &mut [u32; 64], s: &[u8], at: usize)
     requires { at + 64 ≤ length s.now }
     ensures { w.new ≡ loaded w.old s.now at 16 }
 {
-    let mut t = 0;
-    while t < 16 {
+    for t in 0..16 {
         w[t] = load(s, at + 4 * t);
-        t += 1;
     }
 }
 
@@ -48,10 +39,8 @@ fn grow(w: &[u32; 64], t: usize) -> u32
 fn expand(w: &mut [u32; 64])
     ensures { w.new ≡ expanded w.old 48 }
 {
-    let mut i = 0;
-    while i < 48 {
-        w[i + 16] = grow(w, i + 16);
-        i += 1;
+    for t in 16..64 {
+        w[t] = grow(w, t);
     }
 }
 

@@ -1,15 +1,10 @@
 -- Rules give exactly the refusal of the first that isn't passed.
 -- Assumes nothing.
-use Rattle.std.specs.Prelude.{ℕ, suc, ◌≤◌, ◌<◌, Bool, cond, ◌&&◌, ◌⊎◌, ◌≡◌, leb}
-use Rattle.std.proofs.Math.Bool.{true, false}
-use Rattle.std.proofs.Math.Logic.{inl, inr}
-use Rattle.std.proofs.Math.Path.{refl}
-use Rattle.std.proofs.Common.{sym, ap, ◌∙◌, arith}
-use Rattle.std.proofs.Math.Dec.{ltb}
-use borrow.Author.Tests.{leb-true, ltb-true, ltb-false, lt-ltb, le-ltb}
-use Rattle.facts.specs.Fact.{Fact, test, Holds}
+use Rattle.std.specs.Prelude.{ℕ, ◌<◌, Bool, cond, ◌&&◌, ◌⊎◌, ◌≡◌, leb, true, false, refl, ltb}
+use Rattle.std.proofs.Common.{inl, inr, sym, ap, ◌∙◌, arith, leb-true, ltb-true, ltb-false, lt-ltb, le-ltb}
+use Rattle.facts.specs.Fact.{test, Holds}
 use Rattle.facts.specs.FactLaws.{holds, fails_not, passes, fails}
-use Rattle.facts.specs.First.{first_fault, First}
+use Rattle.facts.specs.First.{first_fault}
 use Rattle.facts.specs.FirstLaws.{first, is_first, none_first}
 use Rattle.facts.specs.Rules.{Rules, answer, choose, pass, rule, run}
 use Rattle.facts.specs.RulesLaws.{Passed, no_zero, and_left, and_right}

@@ -1,11 +1,7 @@
 -- What rules can give and what they give; the same rules on other bytes.
 -- Assumes nothing.
-use Rattle.std.specs.Prelude.{ℕ, ◌≤◌, ◌<◌, Bool, cond, ◌&&◌, ◌⊎◌, ◌≡◌, leb, ltb}
-use Rattle.std.proofs.Math.Bool.{true, false}
-use Rattle.std.proofs.Math.Logic.{inl, inr}
-use Rattle.std.proofs.Math.Path.{refl, sym}
-use Rattle.std.proofs.Common.{arith}
-use borrow.Author.Tests.{leb-true, ltb-true, ltb-false, le-ltb}
+use Rattle.std.specs.Prelude.{ℕ, ◌≤◌, ◌<◌, Bool, cond, ◌&&◌, ◌⊎◌, ◌≡◌, leb, ltb, true, false, refl}
+use Rattle.std.proofs.Common.{inl, inr, sym, arith, leb-true, ltb-true, ltb-false, le-ltb}
 use Rattle.facts.specs.Fact.{Fact, test, Holds}
 use Rattle.facts.specs.FactLaws.{holds, fails_not, passes, fails}
 use Rattle.facts.specs.First.{first_fault}

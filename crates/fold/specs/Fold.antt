@@ -1,6 +1,6 @@
 -- Document 02, #114: a pile of sheets p folded into one, in a buffer o.
 -- Assumes nothing.
-use Rattle.std.specs.Prelude.{ℕ, ◌+◌, ◌*◌, cond, List, ◌≡◌, eqb, length}
+use Rattle.std.specs.Prelude.{ℕ, cond, List, ◌≡◌, eqb, length}
 use Rattle.std.proofs.Common.{sym, ◌∙◌}
 use Rattle.facts.specs.Fact.{Fact, ◌≤?◌, ◌and◌}
 use Rattle.facts.specs.Rules.{Rules, answer, rule, run}

@@ -1,18 +1,18 @@
 -- How the rules of a fold go.
 -- Assumes nothing.
-use Rattle.std.specs.Prelude.{ℕ, suc, ◌+◌, ◌*◌, ◌≤◌, ◌<◌, Bool, true, false, cond, List, ◌≡◌, refl, eqb, length}
-use Rattle.std.proofs.Common.{sym, ap, ◌∙◌, arith}
-use borrow.Author.Tests.{eq-eqb, ne_eqb}
-use Rattle.facts.specs.Fact.{Fact, test, Holds, Says, Tells, ◌≤?◌, ◌and◌}
+use Rattle.std.specs.Prelude.{ℕ, List, ◌≡◌, length}
+use Rattle.std.proofs.Common.{sym, ◌∙◌, arith}
+use borrow.Author.Tests.{ne_eqb}
+use Rattle.facts.specs.Fact.{Holds}
 use Rattle.facts.specs.FactLaws.{passes, fails}
-use Rattle.facts.specs.Rules.{rule, answer, run}
-use Rattle.fold_pile.specs.Pile.{sheets, pile_number}
+use Rattle.facts.specs.Rules.{run}
+use Rattle.fold_pile.specs.Pile.{pile_number}
 use Rattle.fold_pile.specs.PileLaws.{pile_then, pile_refused}
 use Rattle.fold_tally.specs.declared.Tally.{Tally}
 use Rattle.fold_tally.specs.Tally.{tally_of, Counted}
 use Rattle.fold_sheet.specs.Folded.{size_of, onto}
-use Rattle.fold_sheet.specs.Placing.{Room}
-use Rattle.fold.specs.declared.Folded.{Folded}
+use Rattle.fold_room.specs.RoomBy.{room_by}
+use Rattle.fold_room.specs.RoomLaws.{room_exact}
 use Rattle.fold.specs.Fold.{pile_sets, has_room, refused_fold, fold_rules, folding, folded_sheet, folded_into, Folds}
 
 -- ---- the three outcomes
@@ -42,24 +42,12 @@ module _ (p o : List ℕ) where
 
 -- ---- 29 by what was counted
 
-abbrev pub room_by : Tally → ℕ → Fact
-room_by t room = t.runs ≤? 256 and 16 + 8 * t.runs + t.bytes ≤? 65535 and 16 + 8 * t.runs + t.bytes ≤? room
-
 module _ (f : ℕ → ℕ) (t : Tally) (c : Counted f t) (room : ℕ) where
-  pub room_exact : Holds (room_by t room) → t ≡ tally_of f
-  room_exact h = c.exact h.0 (omega (arith, h.1.0))
-
   pub room_yes : Holds (room_by t room) → Holds (has_room f room)
   unfolding size_of
-  room_yes h = rw (room_exact h) at h
+  room_yes h = rw (room_exact f t c room h) at h
 
   pub room_no : (Holds (room_by t room) → ⊥) → Holds (has_room f room) → ⊥
   unfolding size_of
   room_no out h =
       out (omega (arith, h.0, c.runs), (omega (arith, h.1.0, c.runs, c.bytes), omega (arith, h.1.1, c.runs, c.bytes)))
-
-  pub room_for : Holds (room_by t room) → Room t.runs f room
-  room_for h =
-      let e = room_exact h in
-      let y = room_yes h in
-      record { count = ap (λ (u : Tally). u.runs) e; few = h.0; short = y.1.0; fits = y.1.1 }

@@ -1,12 +1,12 @@
 -- The folded sheet by its runs: xs are words, the first n of them runs, and rs the bytes before each. f is what is set at each position: 0 is
 -- nothing, and b + 1 the byte b.
 -- Assumes nothing.
-use Rattle.std.specs.Prelude.{ℕ, zero, suc, ◌+◌, ◌-◌, ◌*◌, ◌≤◌, ◌<◌, Bool, true, List, ◌⊎◌, ◌≡◌, length, get_or}
+use Rattle.std.specs.Prelude.{ℕ, zero, suc, ◌+◌, ◌-◌, ◌*◌, ◌≤◌, ◌<◌, Bool, true, false, Option, Some, None, List, ◌⊎◌, ◌≡◌, length, get_or}
 use Rattle.sheet.specs.declared.Entry.{Entry}
 use Rattle.fold_cells.specs.SetAt.{over}
 use Rattle.fold_tally.specs.Tally.{tally_to}
 use Rattle.fold_sheet.specs.Placing.{put_entry}
-use Rattle.fold_words.specs.Words.{start, size}
+use Rattle.fold_words.specs.Words.{size}
 use Rattle.fold_runs.specs.Runs.{Within}
 use Rattle.fold_ranks.specs.Ranks.{starts, sizes, sum_to, Whole}
 
@@ -36,6 +36,11 @@ pub record Laid (xs : List ℕ) (n : ℕ) (rs : List ℕ) (w : Entry) (s : List 
   pub seat : r < n → Within xs n r w.offset (w.offset + w.size)
   pub copied : r < n → Copied os (place xs n r w.offset) s w.position w.size ps
 
+-- the same by the run that was found; where none was, nothing is written
+abbrev pub LaidBy : List ℕ → ℕ → List ℕ → Entry → List ℕ → Option ℕ → List ℕ → List ℕ → Type 0
+LaidBy xs n rs w s None os ps = Laid xs n rs w s n os ps
+LaidBy xs n rs w s (Some r) os ps = (r < n) × Laid xs n rs w s r os ps
+
 -- what g sets has its byte at its place, wherever f sets something
 abbrev pub Stands : ℕ → (ℕ → ℕ) → (ℕ → ℕ) → List ℕ → Type 0
 Stands n f g os = (k b : ℕ) → (f k ≡ 0 → ⊥) → g k ≡ suc b → get_or os (16 + 8 * n + (tally_to f k).bytes) 0 ≡ b
@@ -47,6 +52,11 @@ pub record LaidSheet (xs : List ℕ) (n : ℕ) (rs : List ℕ) (s : ℕ → ℕ)
   pub met : seen < 1024
   pub stands : found ≡ true → (f : ℕ → ℕ) (top : ℕ) → Whole f xs n top → (old : ℕ → ℕ) → Stands n f old os
       → Stands n f (λ (k : ℕ). over (s k) (old k)) ps
+
+-- the same by how many entries were met, if all were found
+abbrev pub LaidSheetBy : List ℕ → ℕ → List ℕ → (ℕ → ℕ) → List ℕ → Option ℕ → List ℕ → Type 0
+LaidSheetBy xs n rs s os None ps = LaidSheet xs n rs s os 0 false ps
+LaidSheetBy xs n rs s os (Some seen) ps = LaidSheet xs n rs s os seen true ps
 
 -- all that the pile sets
 pub record LaidPile (xs : List ℕ) (n : ℕ) (rs : List ℕ) (f : ℕ → ℕ) (os : List ℕ) (found : Bool) (ps : List ℕ) : Type 0 where

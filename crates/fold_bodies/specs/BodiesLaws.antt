@@ -1,24 +1,25 @@
 -- The bodies laid sheet by sheet are those of the folded sheet, and its runs' entries are its entries.
 -- Assumes nothing.
 use Prim.Native.Nat.{ℕ, zero, suc, ◌+◌, ◌-◌, ◌*◌, ◌≤◌, ◌<◌}
-use Rattle.std.specs.Prelude.{Bool, true, false, List, [], ◌∷◌, ◌⊎◌, ◌≡◌, get_or, set}
+use Rattle.std.specs.Prelude.{Bool, true, false, List, [], ◌∷◌, ◌⊎◌, ◌≡◌, get_or, set, take, drop}
 use Rattle.std.proofs.lemmas.Bool.{false≢true}
-use Rattle.std.proofs.Common.{inl, inr, ap, ◌∙◌, length-set, get_or-set_same, get_or-set_other}
+use Rattle.std.proofs.Common.{inl, inr, ap, ◌∙◌, get_or-take, get_or-drop}
 use Rattle.std.proofs.Math.Path.{refl, sym}
 use native.Mathlib.Omega.{arith}
 use Rattle.std.proofs.Math.Decide.{dec_lt, ℕ_discrete}
 use Rattle.std.proofs.Math.ListN.{length}
 use Rattle.std.proofs.lemmas.List.{set-get_or}
-use Rattle.facts.specs.Fact.{Holds}
 use Rattle.sheet.specs.declared.Entry.{Entry}
-use Rattle.sheet.specs.Sheet.{sheet_fits, count, offset, size, position, entry_at}
+use Rattle.sheet.specs.Sheet.{count, offset, size, position, entry_at}
 use Rattle.sheet.specs.ByteAt.{byte_by, byte_at}
 use Rattle.sheet.specs.ByteAtLaws.{by_covers, by_passes}
-use Rattle.fold_pile.specs.Pile.{lies, sheet_at, after, sheets, Piled}
+use Rattle.fold_pile.specs.Pile.{sheets}
+use Rattle.fold_pile.specs.SheetsLaws.{Fitting, piled_fitting}
 use Rattle.fold_cells.specs.SetAt.{over, set_from, set_at}
 use Rattle.fold_cells.specs.Cells.{last, Good, Unset, Bounded}
+use Rattle.fold_cells.specs.CellsLaws.{set_nil, set_cons}
 use Rattle.fold_tally.specs.declared.Tally.{Tally}
-use Rattle.fold_tally.specs.Tally.{stepped, tally_to, tally_of}
+use Rattle.fold_tally.specs.Tally.{stepped, tally_to}
 use Rattle.fold_tally.specs.TallyLaws.{bytes_grow, runs_most, bytes_most}
 use Rattle.fold_sheet.specs.Folded.{size_of}
 use Rattle.fold_sheet.specs.Placing.{put_entry, placed, out_to, Room}
@@ -31,30 +32,25 @@ use Rattle.fold_bodies.specs.Bodies.{Copied, Rooms, place, Laid, Stands, LaidShe
 
 -- ---- bytes copied
 
-pub copied_none : (xs : List ℕ) (to : ℕ) (s : List ℕ) (from : ℕ) → Copied xs to s from 0 xs
-copied_none xs to s from = record { long = refl; inside = λ j h. absurd (omega arith); beside = λ j h. refl }
-
-pub copied_next : (xs : List ℕ) (to : ℕ) (s : List ℕ) (from k : ℕ) (ys : List ℕ) → Copied xs to s from k ys → to + k < length ys
-    → Copied xs to s from (k + 1) (set ys (to + k) (get_or s (from + k) 0))
-copied_next xs to s from k ys c h =
+pub copied_by : (os : List ℕ) (to : ℕ) (s : List ℕ) (from n : ℕ) (ps : List ℕ) (a b : ℕ) → length ps ≡ length os → take to ps ≡ take to os
+    → a ≡ n → b ≡ n → take a (drop to ps) ≡ take b (drop from s) → drop (to + n) ps ≡ drop (to + n) os → Copied os to s from n ps
+copied_by os to s from n ps a b long front x y mid back =
     record {
-      long = length-set ys (to + k) (get_or s (from + k) 0) ∙ c.long;
-      inside = λ j l. elim (ℕ_discrete j k) [
-        | yes e ↦ rw e (get_or-set_same ys (to + k) (get_or s (from + k) 0) 0 h)
-        | no e ↦ get_or-set_other ys (to + k) (to + j) (get_or s (from + k) 0) 0 (λ z. e (omega arith)) ∙ c.inside j (omega arith)
-      ];
-      beside = λ j l. get_or-set_other ys (to + k) j (get_or s (from + k) 0) 0 (apart j l) ∙ c.beside j (less j l);
+      long = long;
+      inside = λ j h.
+          sym (get_or-drop to ps j 0) ∙ sym (get_or-take a (drop to ps) j 0 (omega arith)) ∙ ap (λ (l : List ℕ). get_or l j 0) mid
+          ∙ get_or-take b (drop from s) j 0 (omega arith) ∙ get_or-drop from s j 0;
+      beside = λ j h. beside j h;
     }
   where
-    apart : (j : ℕ) → (j < to) ⊎ (to + (k + 1) ≤ j) → j ≡ to + k → ⊥
-    apart j (inl l) e = omega arith
-    apart j (inr l) e = omega arith
+    beside : (j : ℕ) → (j < to) ⊎ (to + n ≤ j) → get_or ps j 0 ≡ get_or os j 0
+    beside j (inl l) = sym (get_or-take to ps j 0 l) ∙ ap (λ (l : List ℕ). get_or l j 0) front ∙ get_or-take to os j 0 l
+    beside j (inr l) =
+        let i : ℕ = j - (to + n) in
+        let e : to + n + i ≡ j = omega arith in
+        rw e at (sym (get_or-drop (to + n) ps i 0) ∙ ap (λ (l : List ℕ). get_or l i 0) back ∙ get_or-drop (to + n) os i 0)
 
-    less : (j : ℕ) → (j < to) ⊎ (to + (k + 1) ≤ j) → (j < to) ⊎ (to + k ≤ j)
-    less j (inl l) = inl l
-    less j (inr l) = inr (omega arith)
-
--- ---- an entry
+-- an entry
 
 pub laid_none : (xs : List ℕ) (n : ℕ) (rs : List ℕ) (w : Entry) (s os : List ℕ) → Laid xs n rs w s n os os
 laid_none xs n rs w s os =
@@ -190,77 +186,50 @@ laying_not xs n rs s i os ps qs w r met h c l =
 
 -- ---- the sheets of a pile
 
-pub record Piling (p xs : List ℕ) (n : ℕ) (rs : List ℕ) (at : ℕ) (os ps : List ℕ) : Type 0 where
-  pub ss : List (List ℕ)
+-- what stood before the sheets ss, and these
+pub record Piling (p xs : List ℕ) (n : ℕ) (rs : List ℕ) (ss : List (List ℕ)) (os ps : List ℕ) : Type 0 where
   pub old : ℕ → ℕ
-  pub piled : Piled p at ss
+  pub fit : Fitting ss
   pub same : (k : ℕ) → set_at (sheets p) k ≡ set_from (old k) ss k
   pub long : length ps ≡ length os
   pub rest : (j : ℕ) → 16 + 8 * n + sum_to xs n ≤ j → get_or ps j 0 ≡ get_or os j 0
   pub stands : (top : ℕ) → Whole (set_at (sheets p)) xs n top → Stands n (set_at (sheets p)) old ps
 
-pub piling_start : (p xs : List ℕ) (n : ℕ) (rs os : List ℕ) → Good p → Piling p xs n rs 0 os os
+pub piling_start : (p xs : List ℕ) (n : ℕ) (rs os : List ℕ) → Good p → Piling p xs n rs (sheets p) os os
 unfolding set_at
 piling_start p xs n rs os good =
     record {
-      ss = sheets p;
       old = λ k. 0;
-      piled = good;
+      fit = piled_fitting p 0 (sheets p) good;
       same = λ k. refl;
       long = refl;
       rest = λ j h. refl;
       stands = λ top w k b some e. absurd (omega arith);
     }
 
-here : (p : List ℕ) (at : ℕ) (ss : List (List ℕ)) → Piled p at ss → at < length p → Holds (lies p at) × Holds (sheet_fits (sheet_at p at))
-here p at [] d h = absurd (omega arith)
-here p at (s ∷ ss) d h = (d.1, rw d.0 at d.2)
+pub piling_next : (p xs : List ℕ) (n : ℕ) (rs s : List ℕ) (ss : List (List ℕ)) (os ps qs : List ℕ) (met : ℕ) (found : Bool)
+    → Piling p xs n rs (s ∷ ss) os ps → LaidSheet xs n rs (byte_at s) ps met found qs → found ≡ true → Piling p xs n rs ss os qs
+piling_next p xs n rs s ss os ps qs met found c l t =
+    record {
+      old = λ k. over (byte_at s k) (c.old k);
+      fit = c.fit.1;
+      same = λ k. c.same k ∙ set_cons (c.old k) s ss k;
+      long = l.long ∙ c.long;
+      rest = λ j g. l.rest j g ∙ c.rest j g;
+      stands = λ top w. l.stands t (set_at (sheets p)) top w c.old (c.stands top w);
+    }
 
-pub piling_here : {p xs : List ℕ} {n : ℕ} {rs : List ℕ} {at : ℕ} {os ps : List ℕ} → Piling p xs n rs at os ps → at < length p
-    → Holds (lies p at) × Holds (sheet_fits (sheet_at p at))
-piling_here {p} {xs} {n} {rs} {at} k h = here p at k.ss k.piled h
+pub piling_end : (p xs : List ℕ) (n : ℕ) (rs os ps : List ℕ) → Piling p xs n rs [] os ps → LaidPile xs n rs (set_at (sheets p)) os true ps
+piling_end p xs n rs os ps c =
+    record {
+      long = c.long;
+      rest = c.rest;
+      stands = λ t top w k b some e. c.stands top w k b some (sym (c.same k ∙ set_nil (c.old k) k) ∙ e);
+    }
 
-set_cons : (old : ℕ) (s : List ℕ) (ss : List (List ℕ)) (k : ℕ) → set_from old (s ∷ ss) k ≡ set_from (over (byte_at s k) old) ss k
-unfolding set_from
-set_cons old s ss k = refl
-
-pub piling_next : (p xs : List ℕ) (n : ℕ) (rs : List ℕ) (at : ℕ) (os ps qs : List ℕ) (met : ℕ) (found : Bool) → Piling p xs n rs at os ps
-    → at < length p → LaidSheet xs n rs (byte_at (sheet_at p at)) ps met found qs → found ≡ true → Piling p xs n rs (after p at) os qs
-piling_next p xs n rs at os ps qs met found c h l t = go c.ss c.piled c.same
-  where
-    go : (ss : List (List ℕ)) → Piled p at ss → ((k : ℕ) → set_at (sheets p) k ≡ set_from (c.old k) ss k) → Piling p xs n rs (after p at) os qs
-    go [] d same = absurd (omega arith)
-    go (s ∷ ss) d same =
-        record {
-          ss = ss;
-          old = λ k. over (byte_at (sheet_at p at) k) (c.old k);
-          piled = d.3;
-          same = λ k. rw (← d.0) (same k ∙ set_cons (c.old k) s ss k);
-          long = l.long ∙ c.long;
-          rest = λ j g. l.rest j g ∙ c.rest j g;
-          stands = λ top w. l.stands t (set_at (sheets p)) top w c.old (c.stands top w);
-        }
-
-set_nil : (old k : ℕ) → set_from old [] k ≡ old
-unfolding set_from
-set_nil old k = refl
-
-pub piling_end : (p xs : List ℕ) (n : ℕ) (rs : List ℕ) (at : ℕ) (os ps : List ℕ) → Piling p xs n rs at os ps → length p ≤ at
-    → LaidPile xs n rs (set_at (sheets p)) os true ps
-piling_end p xs n rs at os ps c h = go c.ss c.piled c.same
-  where
-    go : (ss : List (List ℕ)) → Piled p at ss → ((k : ℕ) → set_at (sheets p) k ≡ set_from (c.old k) ss k) → LaidPile xs n rs (set_at (sheets p)) os true ps
-    go [] d same =
-        record {
-          long = c.long;
-          rest = c.rest;
-          stands = λ t top w k b some e. c.stands top w k b some (sym (same k ∙ set_nil (c.old k) k) ∙ e);
-        }
-    go (s ∷ ss) d same = absurd (omega (arith, d.1))
-
-pub piling_not : (p xs : List ℕ) (n : ℕ) (rs : List ℕ) (at : ℕ) (os ps qs : List ℕ) (s : ℕ → ℕ) (met : ℕ) (found : Bool)
-    → Piling p xs n rs at os ps → LaidSheet xs n rs s ps met found qs → LaidPile xs n rs (set_at (sheets p)) os false qs
-piling_not p xs n rs at os ps qs s met found c l =
+pub piling_not : (p xs : List ℕ) (n : ℕ) (rs : List ℕ) (ss : List (List ℕ)) (os ps qs : List ℕ) (s : ℕ → ℕ) (met : ℕ) (found : Bool)
+    → Piling p xs n rs ss os ps → LaidSheet xs n rs s ps met found qs → LaidPile xs n rs (set_at (sheets p)) os false qs
+piling_not p xs n rs ss os ps qs s met found c l =
     record { long = l.long ∙ c.long; rest = λ j g. l.rest j g ∙ c.rest j g; stands = λ t. absurd (false≢true t) }
 
 -- ---- the entries

@@ -2,9 +2,8 @@
 -- Assumes nothing.
 use Rattle.std.specs.Prelude.{ℕ, zero, suc, ◌+◌, ◌-◌, ◌≤◌, ◌<◌, List, ◌≡◌, length, get_or, set}
 use Rattle.sheet.specs.declared.Entry.{Entry}
-use Rattle.sheet.specs.ByteAt.{byte_at}
 use Rattle.fold_pile.specs.Pile.{sheets, Piled}
-use Rattle.fold_cells.specs.SetAt.{over, set_from, set_at}
+use Rattle.fold_cells.specs.SetAt.{over}
 
 -- one more than the highest position that can be set, which is 2^32 - 2 + 65,535: every run has ended there
 abbrev pub last : ℕ

@@ -1,30 +1,30 @@
 -- Laws of cells, of what a pile sets, and of the walks over it.
 -- Assumes nothing.
-use Rattle.std.specs.Prelude.{ℕ, zero, suc, ◌+◌, ◌-◌, ◌*◌, ◌≤◌, ◌<◌, List, [], ◌∷◌, ◌⊎◌, ◌≡◌, refl, length, get_or, set, take, drop}
-use Rattle.std.proofs.Common.{inl, inr, sym, ap, ◌∙◌, arith, length-set, get_or-set_same, get_or-set_other, get_or-take, get_or-drop}
+use Rattle.std.specs.Prelude.{ℕ, zero, suc, ◌+◌, ◌-◌, ◌≤◌, ◌<◌, List, [], ◌∷◌, ◌⊎◌, ◌≡◌, refl, length, get_or}
+use Rattle.std.proofs.Common.{inl, inr, sym, ap, ◌∙◌, arith, length-set, get_or-set_same, get_or-set_other}
 use Rattle.std.proofs.Math.Decide.{dec_lt, dec_le}
 use Rattle.facts.specs.Fact.{Holds}
-use Rattle.words.specs.Le.{le, Bytes}
 use Rattle.sheet.specs.declared.Entry.{Entry}
-use Rattle.sheet.specs.Sheet.{sheet_fits, count, offset, size, position, body_at, entry_at}
+use Rattle.sheet.specs.Sheet.{sheet_fits, count, offset, size, position, entry_at}
 use Rattle.sheet.specs.SheetLaws.{bodies_within}
-use Rattle.sheet.specs.ByteAt.{covers, byte_by, byte_at}
+use Rattle.sheet.specs.ByteAt.{byte_by, byte_at}
 use Rattle.sheet.specs.ByteAtLaws.{by_covers, by_passes}
-use Rattle.fold_pile.specs.Pile.{lies, sheet_at, after, sheets, Piled}
+use Rattle.fold_pile.specs.Pile.{sheets}
+use Rattle.fold_pile.specs.SheetsLaws.{Fitting, piled_fitting}
 use Rattle.fold_cells.specs.SetAt.{over, set_from, set_at}
-use Rattle.fold_cells.specs.Cells.{last, Good, Unset, celled, Reaches, Entered, Over, Shows}
+use Rattle.fold_cells.specs.Cells.{Good, Unset, celled, Reaches, Entered, Over, Shows}
 
 -- ---- one sheet more
 
-set_nil : (old k : ℕ) → set_from old [] k ≡ old
+pub set_nil : (old k : ℕ) → set_from old [] k ≡ old
 unfolding set_from
 set_nil old k = refl
 
-set_cons : (old : ℕ) (s : List ℕ) (ss : List (List ℕ)) (k : ℕ) → set_from old (s ∷ ss) k ≡ set_from (over (byte_at s k) old) ss k
+pub set_cons : (old : ℕ) (s : List ℕ) (ss : List (List ℕ)) (k : ℕ) → set_from old (s ∷ ss) k ≡ set_from (over (byte_at s k) old) ss k
 unfolding set_from
 set_cons old s ss k = refl
 
-set_skip : (s : List ℕ) (ss : List (List ℕ)) (k : ℕ) → byte_at s k ≡ 0 → set_from 0 (s ∷ ss) k ≡ set_from 0 ss k
+pub set_skip : (s : List ℕ) (ss : List (List ℕ)) (k : ℕ) → byte_at s k ≡ 0 → set_from 0 (s ∷ ss) k ≡ set_from 0 ss k
 set_skip s ss k e = set_cons 0 s ss k ∙ ap (λ (x : ℕ). set_from (over x 0) ss k) e
 
 -- ---- cells set one by one
@@ -150,80 +150,53 @@ pub unset_entry : (s : List ℕ) (from low r i : ℕ) → Unset (byte_by s i) fr
 unset_entry s from low r i u a b out =
     record { up = a; none = λ k h l. by_passes s i k (out k h l) ∙ u.none k h (omega arith) }
 
--- ---- the sheets of a pile, one after the other
+-- ---- the sheets of a pile, one after the other: those that are left are ss
 
 -- what is set is the same from here on, but where it is
-pub record Seeking (p : List ℕ) (from at low : ℕ) : Type 0 where
-  pub ss : List (List ℕ)
-  pub piled : Piled p at ss
+pub record Seeking (p : List ℕ) (from : ℕ) (ss : List (List ℕ)) (low : ℕ) : Type 0 where
+  pub fit : Fitting ss
   pub within : from ≤ low
   pub same : (k : ℕ) → from ≤ k → k < low → set_at (sheets p) k ≡ set_from 0 ss k
 
-pub seeking_start : (p : List ℕ) (from low : ℕ) → Good p → from ≤ low → Seeking p from 0 low
+pub seeking_start : (p : List ℕ) (from low : ℕ) → Good p → from ≤ low → Seeking p from (sheets p) low
 unfolding set_at
-seeking_start p from low good h = record { ss = sheets p; piled = good; within = h; same = λ k a b. refl }
+seeking_start p from low good h = record { fit = piled_fitting p 0 (sheets p) good; within = h; same = λ k a b. refl }
 
--- the sheet at hand is there, and it is one
-here : (p : List ℕ) (at : ℕ) (ss : List (List ℕ)) → Piled p at ss → at < length p → Holds (lies p at) × Holds (sheet_fits (sheet_at p at))
-here p at [] d h = absurd (omega arith)
-here p at (s ∷ ss) d h = (d.1, rw d.0 at d.2)
+pub seeking_next : (p : List ℕ) (from : ℕ) (s : List ℕ) (ss : List (List ℕ)) (low r : ℕ) → Seeking p from (s ∷ ss) low
+    → Unset (byte_at s) from r → r ≤ low → Seeking p from ss r
+seeking_next p from s ss low r k u l =
+    record {
+      fit = k.fit.1;
+      within = u.up;
+      same = λ j a b. k.same j a (omega arith) ∙ set_skip s ss j (u.none j a b);
+    }
 
-pub seeking_here : {p : List ℕ} {from at low : ℕ} → Seeking p from at low → at < length p → Holds (lies p at) × Holds (sheet_fits (sheet_at p at))
-seeking_here {p} {from} {at} k h = here p at k.ss k.piled h
+pub seeking_end : (p : List ℕ) (from low : ℕ) → Seeking p from [] low → Unset (set_at (sheets p)) from low
+seeking_end p from low k = record { up = k.within; none = λ j a b. k.same j a b ∙ set_nil 0 j }
 
-pub seeking_next : (p : List ℕ) (from at low r : ℕ) → Seeking p from at low → at < length p → Unset (byte_at (sheet_at p at)) from r → r ≤ low
-    → Seeking p from (after p at) r
-seeking_next p from at low r k h u l = go k.ss k.piled k.same
-  where
-    go : (ss : List (List ℕ)) → Piled p at ss → ((j : ℕ) → from ≤ j → j < low → set_at (sheets p) j ≡ set_from 0 ss j)
-        → Seeking p from (after p at) r
-    go [] d same = absurd (omega arith)
-    go (s ∷ ss) d same =
-        record { ss = ss; piled = d.3; within = u.up; same = λ j a b. same j a (omega arith) ∙ set_skip s ss j (rw d.0 (u.none j a b)) }
-
-pub seeking_end : (p : List ℕ) (from at low : ℕ) → Seeking p from at low → length p ≤ at → Unset (set_at (sheets p)) from low
-seeking_end p from at low k h = go k.ss k.piled k.same
-  where
-    go : (ss : List (List ℕ)) → Piled p at ss → ((j : ℕ) → from ≤ j → j < low → set_at (sheets p) j ≡ set_from 0 ss j)
-        → Unset (set_at (sheets p)) from low
-    go [] d same = record { up = k.within; none = λ j a b. same j a b ∙ set_nil 0 j }
-    go (s ∷ ss) d same = absurd (omega (arith, d.1))
-
--- the cells hold what the sheets before `at` set
-pub record Filling (p : List ℕ) (base at : ℕ) (ys : List ℕ) : Type 0 where
-  pub ss : List (List ℕ)
-  pub piled : Piled p at ss
+-- the cells hold what the sheets before have set
+pub record Filling (p : List ℕ) (base : ℕ) (ss : List (List ℕ)) (ys : List ℕ) : Type 0 where
+  pub fit : Fitting ss
   pub same : (j : ℕ) → j < length ys → set_from (get_or ys j 0) ss (base + j) ≡ set_at (sheets p) (base + j)
 
-pub filling_start : (p : List ℕ) (base : ℕ) (ys : List ℕ) → Good p → ((j : ℕ) → j < length ys → get_or ys j 0 ≡ 0) → Filling p base 0 ys
+pub filling_start : (p : List ℕ) (base : ℕ) (ys : List ℕ) → Good p → ((j : ℕ) → j < length ys → get_or ys j 0 ≡ 0)
+    → Filling p base (sheets p) ys
 unfolding set_at
 filling_start p base ys good none =
-    record { ss = sheets p; piled = good; same = λ j h. ap (λ (x : ℕ). set_from x (sheets p) (base + j)) (none j h) }
+    record {
+      fit = piled_fitting p 0 (sheets p) good;
+      same = λ j h. ap (λ (x : ℕ). set_from x (sheets p) (base + j)) (none j h);
+    }
 
-pub filling_here : {p : List ℕ} {base at : ℕ} {ys : List ℕ} → Filling p base at ys → at < length p
-    → Holds (lies p at) × Holds (sheet_fits (sheet_at p at))
-filling_here {p} {base} {at} k h = here p at k.ss k.piled h
+pub filling_next : (p : List ℕ) (base : ℕ) (s : List ℕ) (ss : List (List ℕ)) (ys zs : List ℕ) → Filling p base (s ∷ ss) ys
+    → Over ys zs base (byte_at s) → Filling p base ss zs
+filling_next p base s ss ys zs k o =
+    record {
+      fit = k.fit.1;
+      same = λ j l.
+          let l' : j < length ys = omega (arith, o.long) in
+          rw (o.cell j l') (sym (set_cons (get_or ys j 0) s ss (base + j)) ∙ k.same j l');
+    }
 
-pub filling_next : (p : List ℕ) (base at : ℕ) (ys zs : List ℕ) → Filling p base at ys → at < length p → Over ys zs base (byte_at (sheet_at p at))
-    → Filling p base (after p at) zs
-filling_next p base at ys zs k h o = go k.ss k.piled k.same
-  where
-    go : (ss : List (List ℕ)) → Piled p at ss → ((j : ℕ) → j < length ys → set_from (get_or ys j 0) ss (base + j) ≡ set_at (sheets p) (base + j))
-        → Filling p base (after p at) zs
-    go [] d same = absurd (omega arith)
-    go (s ∷ ss) d same =
-        record {
-          ss = ss;
-          piled = d.3;
-          same = λ j l.
-              let l' : j < length ys = omega (arith, o.long) in
-              rw (o.cell j l', ← d.0) (sym (set_cons (get_or ys j 0) s ss (base + j)) ∙ same j l');
-        }
-
-pub filling_end : (p : List ℕ) (base at : ℕ) (ys : List ℕ) → Filling p base at ys → length p ≤ at → Shows ys base (set_at (sheets p))
-filling_end p base at ys k h = go k.ss k.piled k.same
-  where
-    go : (ss : List (List ℕ)) → Piled p at ss → ((j : ℕ) → j < length ys → set_from (get_or ys j 0) ss (base + j) ≡ set_at (sheets p) (base + j))
-        → Shows ys base (set_at (sheets p))
-    go [] d same = record { cell = λ j l. sym (set_nil (get_or ys j 0) (base + j)) ∙ same j l }
-    go (s ∷ ss) d same = absurd (omega (arith, d.1))
+pub filling_end : (p : List ℕ) (base : ℕ) (ys : List ℕ) → Filling p base [] ys → Shows ys base (set_at (sheets p))
+filling_end p base ys k = record { cell = λ j l. sym (set_nil (get_or ys j 0) (base + j)) ∙ k.same j l }

@@ -2,14 +2,13 @@
 #![tactic(auto)]
 
 ghost use Rattle.std.specs.Prelude.{◌≡◌, ℕ, ◌+◌, ◌≤◌, ◌<◌, length, get_or};
-ghost use Rattle.facts.specs.Fact.{Holds};
-ghost use Rattle.sheet.specs.Sheet.{sheet_fits};
 ghost use Rattle.sheet.specs.ByteAt.{byte_at};
 ghost use Rattle.fold_pile.specs.Pile.{sheets};
 ghost use Rattle.fold_cells.specs.SetAt.{set_at};
-ghost use Rattle.fold_cells.specs.Cells.{last, Good, Reaches, Unset, celled, Entered, Over, Shows};
+ghost use Rattle.fold_cells.specs.Cells.{last, Reaches, Unset, celled, Entered, Over, Shows};
 
-use sheet::Entry;
+use fold_pile::Pile;
+use sheet::{Entry, Sheet};
 
 // The lower of `low` and the entry's first byte from `from` on.
 fn lower(w: Entry, from: usize, low: usize) -> usize
@@ -19,51 +18,33 @@ fn lower(w: Entry, from: usize, low: usize) -> usize
     if w.offset + w.size <= from {
         return low;
     }
-    if low <= w.offset {
-        return low;
-    }
-    if w.offset < from {
-        return from;
-    }
-    w.offset
+    w.offset.max(from).min(low)
 }
 
 // The lower of `low` and the sheet's first byte from `from` on.
-fn lowest(sheet: &[u8], from: usize, low: usize) -> usize
-    requires { Holds (sheet_fits sheet.now) × (from ≤ low) }
+fn lowest(sheet: &Sheet, from: usize, low: usize) -> usize
+    requires { from ≤ low }
     ensures { Unset (byte_at sheet.now) from result × (result ≤ low) }
 {
-    let m = words::le16(sheet, 12);
+    let m = sheet.count();
     let mut r = low;
-    let mut i = 0;
-    while i < m {
-        r = lower(sheet::entry_at(sheet, i), from, r);
-        i += 1;
+    for i in 0..m {
+        r = lower(sheet.entry(i), from, r);
     }
     r
 }
 
-// The first position from `from` on that the pile sets, or `last` where there is none.
-pub fn next_set(pile: &[u8], from: usize) -> usize
-    requires { Good pile.now × (from ≤ last) }
-    ensures { Unset (set_at (sheets pile.now)) from result × (result ≤ last) }
+// The first position from `from` on that the pile sets, or `last` where there is none: a bound that goes down from there, which callers compare
+// with other positions, so it is no Option.
+pub fn next_set(pile: &Pile, from: usize) -> usize
+    requires { from ≤ last }
+    ensures { Unset (set_at (sheets pile.now.bytes.now)) from result × (result ≤ last) }
 {
     let mut low = 4295032831;
-    let mut at = 0;
-    while at < pile.len() {
-        let start = at + 4;
-        let end = start + words::le32(pile, at);
-        low = lowest(&pile[start..end], from, low);
-        at = end;
+    for sheet in pile.sheets() {
+        low = lowest(&Sheet::known(sheet), from, low);
     }
     low
-}
-
-// The cell of a byte.
-fn cell_of(b: u8) -> u16
-    ensures { result ≡ b + 1 }
-{
-    b as u16 + 1
 }
 
 // Sets n cells from `to` on to the bytes of the sheet from `from` on.
@@ -71,30 +52,9 @@ fn set_cells(cells: &mut [u16], to: usize, sheet: &[u8], from: usize, n: usize)
     requires { (to + n ≤ length cells.old) × (from + n ≤ length sheet.now) }
     ensures { cells.new ≡ celled cells.old to sheet.now from n }
 {
-    let mut k = 0;
-    while k < n {
-        cells[to + k] = cell_of(sheet[from + k]);
-        k += 1;
+    for k in 0..n {
+        cells[to + k] = u16::from(sheet[from + k]) + 1;
     }
-}
-
-// The larger of two numbers, and the smaller.
-fn larger(a: usize, b: usize) -> usize
-    ensures { (a ≤ result) × (b ≤ result) × ((a < result → b ≡ result)) }
-{
-    if a < b {
-        return b;
-    }
-    a
-}
-
-fn smaller(a: usize, b: usize) -> usize
-    ensures { (result ≤ a) × (result ≤ b) × ((result < a → b ≡ result)) }
-{
-    if b < a {
-        return b;
-    }
-    a
 }
 
 // Sets the cells that an entry of the sheet reaches, the first cell standing for the position `base`.
@@ -105,8 +65,8 @@ fn enter(cells: &mut [u16], base: usize, sheet: &[u8], w: Entry)
 {
     let end = w.offset + w.size;
     let top = base + cells.len();
-    let a = larger(w.offset, base);
-    let e = smaller(end, top);
+    let a = w.offset.max(base);
+    let e = end.min(top);
     if e <= a {
         return;
     }
@@ -114,41 +74,25 @@ fn enter(cells: &mut [u16], base: usize, sheet: &[u8], w: Entry)
 }
 
 // Sets the cells that the sheet reaches.
-fn enter_sheet(cells: &mut [u16], base: usize, sheet: &[u8])
-    requires { Holds (sheet_fits sheet.now) × (base ≤ last) × (length cells.old ≤ 65536) }
+fn enter_sheet(cells: &mut [u16], base: usize, sheet: &Sheet)
+    requires { (base ≤ last) × (length cells.old ≤ 65536) }
     ensures { Over cells.old cells.new base (byte_at sheet.now) }
 {
-    let m = words::le16(sheet, 12);
-    let mut i = 0;
-    while i < m {
-        enter(cells, base, sheet, sheet::entry_at(sheet, i));
-        i += 1;
-    }
-}
-
-// Nothing set in any cell.
-fn clear(cells: &mut [u16])
-    ensures { (length cells.new ≡ length cells.old) × ((j : ℕ) → j < length cells.old → get_or cells.new j 0 ≡ 0) }
-{
-    let mut j = 0;
-    while j < cells.len() {
-        cells[j] = 0;
-        j += 1;
+    let m = sheet.count();
+    let bytes = sheet.bytes();
+    for i in 0..m {
+        enter(cells, base, bytes, sheet.entry(i));
     }
 }
 
 // What the pile sets from the position `base` on, a cell for each.
-pub fn fill(cells: &mut [u16], base: usize, pile: &[u8])
-    requires { Good pile.now × (base ≤ last) × (length cells.old ≤ 65536) }
-    ensures shows { Shows cells.new base (set_at (sheets pile.now)) }
+pub fn fill(cells: &mut [u16], base: usize, pile: &Pile)
+    requires { (base ≤ last) × (length cells.old ≤ 65536) }
+    ensures shows { Shows cells.new base (set_at (sheets pile.now.bytes.now)) }
     ensures cells_len_unchanged { length cells.new ≡ length cells.old }
 {
-    clear(cells);
-    let mut at = 0;
-    while at < pile.len() {
-        let start = at + 4;
-        let end = start + words::le32(pile, at);
-        enter_sheet(cells, base, &pile[start..end]);
-        at = end;
+    cells.fill(0);
+    for sheet in pile.sheets() {
+        enter_sheet(cells, base, &Sheet::known(sheet));
     }
 }

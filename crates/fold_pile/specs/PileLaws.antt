@@ -1,22 +1,23 @@
 -- A pile that passes 15 and 16 is its sheets, one after the other.
 -- Assumes nothing.
-use Prim.Native.Nat.{ℕ, zero, suc, ◌+◌, ◌-◌, ◌≤◌, ◌<◌}
-use Rattle.std.specs.Prelude.{Bool, List, [], ◌∷◌, ◌≡◌, get_or, take, drop}
+use Prim.Native.Nat.{ℕ, zero, suc, ◌+◌, ◌≤◌, ◌<◌}
+use Rattle.std.specs.Prelude.{Bool, List, [], ◌∷◌, ◌≡◌, drop}
 use Rattle.std.proofs.Math.Bool.{true, false, cond}
 use Rattle.std.proofs.Math.Path.{refl}
-use Rattle.std.proofs.Common.{sym, ap, ◌∙◌, get_or-take, get_or-drop}
+use Rattle.std.proofs.Common.{sym, ◌∙◌, length-take, length-drop}
 use native.Mathlib.Omega.{arith}
 use Rattle.std.proofs.Math.Decide.{dec_lt, ℕ_discrete}
 use Rattle.std.proofs.Math.ListN.{length}
 use Rattle.facts.specs.Fact.{Fact, test, Holds, ◌≤?◌, ◌≡?◌}
 use Rattle.facts.specs.FactLaws.{holds, fails_not, passes, fails}
-use Rattle.facts.specs.Rules.{Rules, answer, rule, choose, run}
+use Rattle.facts.specs.Rules.{Rules, answer, run}
 use Rattle.facts.specs.RulesLaws.{by_test}
-use Rattle.words.specs.Le.{le, Bytes}
+use Rattle.words.specs.Le.{le}
 use Rattle.answers.specs.declared.Identity.{Identity}
 use Rattle.sheet.specs.Sheet.{sheet_identity, sheet_fits, same_identity}
 use Rattle.fold_pile.specs.Pile.{lies, sheet_at, after, sheets_from, sheets, sheet_rules, pile_identity, pile_rules, number_of}
 use Rattle.fold_pile.specs.Pile.{sheets_number, pile_number, sheet_number, Piled}
+use Rattle.fold_pile.specs.SheetsLaws.{from_some, from_none}
 
 -- ---- one sheet after the other
 
@@ -76,20 +77,22 @@ module _ (p : List ℕ) (first : Identity) (at n : ℕ) where
       Got = Holds (lies p at) × Holds (sheet_fits (sheet_at p at)) × Holds (same_identity (sheet_identity (sheet_at p at)) first)
           × (number_of (sheet_rules p first (after p at) n (answer 0)) ≡ 0)
 
--- ---- the walk of `sheets_number`
+-- ---- the walk of `check_sheets`
 
-pub record Judging (p : List ℕ) (first : Identity) (at : ℕ) : Type 0 where
+-- the sheets ss are left, of which the first one's length stands at `at`
+pub record Judging (p : List ℕ) (first : Identity) (at : ℕ) (ss : List (List ℕ)) : Type 0 where
   pub n : ℕ
   pub enough : length p ≤ at + n
   pub within : at ≤ length p
+  pub left : sheets_from p at n ≡ ss
   pub same : sheets_number p first ≡ number_of (sheet_rules p first at n (answer 0))
 
-pub judging_start : (p : List ℕ) (first : Identity) → Judging p first 0
-unfolding sheets_number
-judging_start p first = record { n = length p; enough = omega arith; within = omega arith; same = refl }
+pub judging_start : (p : List ℕ) (first : Identity) → Judging p first 0 (sheets p)
+unfolding sheets_number sheets
+judging_start p first = record { n = length p; enough = omega arith; within = omega arith; left = refl; same = refl }
 
 module _ (p : List ℕ) (first : Identity) (at : ℕ) where
-  pub judging_end : (j : Judging p first at) → at ≡ length p → sheets_number p first ≡ 0
+  pub judging_end : (j : Judging p first at []) → at ≡ length p → sheets_number p first ≡ 0
   unfolding sheet_rules run
   judging_end j e = go j.n j.same
     where
@@ -97,29 +100,43 @@ module _ (p : List ℕ) (first : Identity) (at : ℕ) where
       go zero same = same
       go (suc n) same = same ∙ at_end_lem p first at n e
 
-  pub judging_not : (j : Judging p first at) → at < length p → (Holds (lies p at) → ⊥) → sheets_number p first ≡ 15
-  judging_not j h l = go j.n j.enough j.same
+  pub judging_not : (j : Judging p first at []) → at < length p → sheets_number p first ≡ 15
+  judging_not j h = go j.n j.enough j.left j.same
     where
-      go : (n : ℕ) → length p ≤ at + n → sheets_number p first ≡ number_of (sheet_rules p first at n (answer 0)) → sheets_number p first ≡ 15
-      go zero enough same = absurd (omega arith)
-      go (suc n) enough same = same ∙ not_there p first at n (λ e. omega arith) l
+      go : (n : ℕ) → length p ≤ at + n → sheets_from p at n ≡ [] → sheets_number p first ≡ number_of (sheet_rules p first at n (answer 0))
+          → sheets_number p first ≡ 15
+      go zero enough left same = absurd (omega arith)
+      go (suc n) enough left same = same ∙ not_there p first at n (λ e. omega arith) (from_none p (suc n) at left enough)
 
-  pub judging_bad : (j : Judging p first at) → at < length p → Holds (lies p at) → (v : ℕ) → v ≡ sheet_number first (sheet_at p at)
-      → (v ≡ 0 → ⊥) → sheets_number p first ≡ v
-  judging_bad j h l v is bad = go j.n j.enough j.same
-    where
-      go : (n : ℕ) → length p ≤ at + n → sheets_number p first ≡ number_of (sheet_rules p first at n (answer 0)) → sheets_number p first ≡ v
-      go zero enough same = absurd (omega arith)
-      go (suc n) enough same = same ∙ bad_sheet p first at n (λ e. omega arith) l v is bad
+  module _ (s : List ℕ) (ss : List (List ℕ)) (j : Judging p first at (s ∷ ss)) where
+    -- what is left after it
+    go_on : (Q : Type 0) → ((m : ℕ) → length p ≤ at + suc m → Holds (lies p at) → s ≡ sheet_at p at → sheets_from p (after p at) m ≡ ss
+        → sheets_number p first ≡ number_of (sheet_rules p first at (suc m) (answer 0)) → Q) → Q
+    go_on Q f = go j.n j.enough j.left j.same
+      where
+        go : (n : ℕ) → length p ≤ at + n → sheets_from p at n ≡ s ∷ ss
+            → sheets_number p first ≡ number_of (sheet_rules p first at n (answer 0)) → Q
+        go n enough left same =
+            let (m, e, l, w, r) = from_some p n at s ss left in
+            f m (rw e at enough) l w r (rw e at same)
 
-  pub judging_next : (j : Judging p first at) → at < length p → Holds (lies p at) → 0 ≡ sheet_number first (sheet_at p at)
-      → Judging p first (after p at)
-  judging_next j h l is = go j.n j.enough j.same
-    where
-      go : (n : ℕ) → length p ≤ at + n → sheets_number p first ≡ number_of (sheet_rules p first at n (answer 0)) → Judging p first (after p at)
-      go zero enough same = absurd (omega arith)
-      go (suc n) enough same =
-          record { n = n; enough = omega arith; within = l.1; same = same ∙ good_sheet p first at n (λ e. omega arith) l is }
+    pub judging_bad : (v : ℕ) → v ≡ sheet_number first s → (v ≡ 0 → ⊥) → sheets_number p first ≡ v
+    judging_bad v is bad = go_on _ (λ m enough l w r same. same ∙ bad_sheet p first at m (λ z. omega arith) l v (rw w at is) bad)
+
+    pub judging_next : 0 ≡ sheet_number first s → Judging p first (at + (4 + length s)) ss
+    judging_next is =
+        go_on _
+        (λ m enough l w r same.
+        let long : at + (4 + length s) ≡ after p at =
+        rw w (omega (arith, length-take (le 4 p at) (drop (at + 4) p), length-drop (at + 4) p)) in
+        rw long
+        (record {
+          n = m;
+          enough = omega arith;
+          within = l.1;
+          left = r;
+          same = same ∙ good_sheet p first at m (λ z. omega arith) l (rw w at is);
+        }))
 
 -- ---- the pile
 

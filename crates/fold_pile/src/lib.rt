@@ -1,70 +1,130 @@
 // Document 02, #114: a pile of sheets, and rules 15 and 16 for it.
 #![tactic(auto)]
 
-ghost use Rattle.std.specs.Prelude.{◌≡◌, ◌≤◌, length};
-ghost use Rattle.facts.specs.Fact.{Tells};
-ghost use Rattle.fold_pile.specs.Pile.{lies, sheet_number, sheets_number, pile_number};
+ghost use Rattle.std.specs.Prelude.{◌≡◌, ℕ, ◌<◌, List, slice_index};
+ghost use Rattle.std.specs.Iterator.{YieldsFirstRef, item_count};
+ghost use Rattle.fold_pile.specs.Pile.{sheets, sheet_number, sheets_number, pile_number, pile_identity};
+ghost use Rattle.fold_pile.specs.Refused.{number_of_refusal, told};
 
 use answers::Identity;
+use sheet::Sheet;
+use std::marker::Model;
 
-// Whether a length and so many bytes stand at `at`.
-fn lies_at(pile: &[u8], at: usize) -> bool
-    requires { at ≤ length pile.now }
-    ensures { Tells result (lies pile.now at) }
+// Why a pile is refused.
+#[derive(Clone, Copy)]
+pub enum Refusal {
+    // 15: a length or a sheet is cut short, or it is no sheet.
+    Unfit,
+    // 16: a sheet has another identity than the first one.
+    Unlike,
+}
+
+impl Refusal {
+    // The rule's number.
+    pub fn number(self) -> u32
+        ensures { result ≡ number_of_refusal self }
+    {
+        match self {
+            Refusal::Unfit => 15,
+            Refusal::Unlike => 16,
+        }
+    }
+}
+
+// The sheets of a pile in their order, each after its 32-bit length; it ends where a length or a sheet is cut short.
+#[derive(Drop)]
+pub struct Sheets<'a> {
+    rest: &'a [u8],
+}
+
+impl<'a> Model for Sheets<'a> {
+    ghost Value = { List (List ℕ) };
+
+    ghost view = { λ s. sheets s.rest.now };
+}
+
+impl<'a> Iterator for Sheets<'a> {
+    type Item = &'a [u8];
+
+    ghost next_gives = { YieldsFirstRef (λ left. left) };
+
+    ghost remaining = { item_count (λ left. left) };
+
+    fn next(&mut self) -> Option<&'a [u8]> {
+        let (length, rest) = self.rest.split_at_checked(4)?;
+        let (sheet, rest) = rest.split_at_checked(words::le32(length, 0))?;
+        self.rest = rest;
+        Some(sheet)
+    }
+}
+
+// The sheets of a pile.
+fn sheets_of(pile: &[u8]) -> Sheets<'_>
+    ensures { result ≡ sheets pile.now }
 {
-    if pile.len() - at < 4 {
-        return false;
-    }
-    if pile.len() - at - 4 < words::le32(pile, at) {
-        return false;
-    }
-    true
+    Sheets { rest: pile }
 }
 
 // Rules 15 and 16 for one sheet.
-fn sheet_number(sheet: &[u8], first: Identity) -> u32
-    ensures { result ≡ sheet_number first sheet.now }
+fn check_sheet(sheet: &[u8], first: Identity) -> Result<(), Refusal>
+    ensures { told result ≡ sheet_number first sheet.now }
 {
-    if !sheet::sheet_fits(sheet) {
-        return 15;
+    let Some(sheet) = Sheet::of(sheet) else {
+        return Err(Refusal::Unfit);
+    };
+    if !sheet.names(first) {
+        return Err(Refusal::Unlike);
     }
-    if !sheet::names(sheet, first) {
-        return 16;
-    }
-    0
+    Ok(())
 }
 
 // Rules 15 and 16 for all sheets, in their order.
-fn sheets_number(pile: &[u8], first: Identity) -> u32
-    ensures { result ≡ sheets_number pile.now first }
+fn check_sheets(pile: &[u8], first: Identity) -> Result<(), Refusal>
+    ensures { told result ≡ sheets_number pile.now first }
 {
-    let mut at = 0;
-    while at < pile.len() {
-        if !lies_at(pile, at) {
-            return 15;
-        }
-        let start = at + 4;
-        let end = start + words::le32(pile, at);
-        let number = sheet_number(&pile[start..end], first);
-        if number != 0 {
-            return number;
-        }
-        at = end;
+    let mut seen = 0;
+    for sheet in sheets_of(pile) {
+        check_sheet(sheet, first)?;
+        seen += 4 + sheet.len();
     }
-    0
+    if seen < pile.len() {
+        return Err(Refusal::Unfit);
+    }
+    Ok(())
 }
 
-// Rules 15 and 16 for the pile.
-pub fn pile_number(pile: &[u8]) -> u32
-    ensures { result ≡ pile_number pile.now }
-{
-    if !lies_at(pile, 0) {
-        return 15;
+// A pile that passes 15 and 16, and the identity of its sheets.
+#[derive(Clone, Copy)]
+pub struct Pile<'a> {
+    pub bytes: &'a [u8],
+    pub first: Identity,
+    ghost in_range: { (k : ℕ) → slice_index bytes.now k < 256 },
+    ghost passed: { pile_number bytes.now ≡ 0 },
+    ghost named: { first ≡ pile_identity bytes.now },
+}
+
+impl<'a> Pile<'a> {
+    ghost use Rattle.fold_pile.specs.Judged.{Judged};
+
+    // Rules 15 and 16 for the pile.
+    pub fn check(bytes: &'a [u8]) -> Result<Pile<'a>, Refusal>
+        ensures { Judged bytes.now result }
+    {
+        let Some(sheet) = sheets_of(bytes).next() else {
+            return Err(Refusal::Unfit);
+        };
+        let Some(sheet) = Sheet::of(sheet) else {
+            return Err(Refusal::Unfit);
+        };
+        let first = sheet.identity();
+        check_sheets(bytes, first)?;
+        Ok(Pile { bytes, first })
     }
-    let end = 4 + words::le32(pile, 0);
-    if !sheet::sheet_fits(&pile[4..end]) {
-        return 15;
+
+    // Its sheets.
+    pub fn sheets(&self) -> Sheets<'a>
+        ensures { result ≡ sheets self.now.bytes.now }
+    {
+        sheets_of(self.bytes)
     }
-    let first = sheet::identity_of(&pile[4..end]);
-    sheets_number(pile, first)
 }

@@ -1,6 +1,6 @@
 -- Runs in order, and the bytes before each. f is what is set at each position, 0 where nothing is.
 -- Assumes nothing.
-use Rattle.std.specs.Prelude.{ℕ, zero, suc, ◌+◌, ◌≤◌, ◌<◌, List, ◌≡◌, length, get_or}
+use Rattle.std.specs.Prelude.{ℕ, zero, suc, ◌+◌, ◌≤◌, ◌<◌, List, ◌≡◌, get_or}
 use Rattle.fold_words.specs.Words.{start, size, Sound}
 use Rattle.fold_runs.specs.Runs.{Out}
 

@@ -1,17 +1,16 @@
 -- The count before each run.
 -- Assumes nothing.
 use Prim.Native.Nat.{ℕ, zero, suc, ◌+◌, ◌-◌, ◌≤◌, ◌<◌}
-use Rattle.std.specs.Prelude.{List, ◌⊎◌, ◌≡◌, length, get_or, set}
-use Rattle.std.proofs.Common.{inl, inr, sym, ap, ◌∙◌, add-one, length-set, get_or-set_same, get_or-set_other}
+use Rattle.std.specs.Prelude.{List, ◌≡◌, length, set}
+use Rattle.std.proofs.Common.{ap, ◌∙◌, add-one, get_or-set_same, get_or-set_other}
 use Rattle.std.proofs.Math.Path.{refl}
 use native.Mathlib.Omega.{arith}
 use Rattle.std.proofs.Math.Decide.{dec_lt, ℕ_discrete}
-use Rattle.fold_cells.specs.Cells.{last, Unset, Bounded}
+use Rattle.fold_cells.specs.Cells.{Unset}
 use Rattle.fold_tally.specs.declared.Tally.{Tally}
-use Rattle.fold_tally.specs.Tally.{ended, stepped, tally_to, tally_of}
-use Rattle.fold_tally.specs.TallyLaws.{quiet, step_idle, bytes_grow, bytes_most, runs_most}
-use Rattle.fold_words.specs.Words.{start, size, Filled, Sound}
-use Rattle.fold_runs.specs.Runs.{Out}
+use Rattle.fold_tally.specs.Tally.{ended, stepped, tally_to}
+use Rattle.fold_tally.specs.TallyLaws.{quiet}
+use Rattle.fold_words.specs.Words.{Filled}
 use Rattle.fold_ranks.specs.Ranks.{starts, sizes, ends, Rising, sum_to, Summed, Whole}
 
 -- ---- the walks

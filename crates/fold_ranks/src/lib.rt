@@ -1,20 +1,17 @@
 // Document 02, #114: runs in order, and how many bytes are set before each.
 #![tactic(auto)]
 
-ghost use Rattle.std.specs.Prelude.{true, ◌≡◌, ℕ, ◌≤◌, ◌<◌, length};
+ghost use Rattle.std.specs.Prelude.{true, ◌≡◌, ◌≤◌, length};
 ghost use Rattle.fold_ranks.specs.Ranks.{Rising, sum_to, Summed};
 
-// Whether n runs ascend, none empty, with something unset between them, and start at `top` or below.
-pub fn rising(words: &[usize], n: usize, top: usize) -> bool
-    requires { n ≤ length words.now }
-    ensures { result ≡ true → Rising words.now n top }
+// Whether runs ascend, none empty, with something unset between them, and start at `top` or below.
+pub fn rising(words: &[usize], top: usize) -> bool
+    ensures { result ≡ true → Rising words.now (length words.now) top }
 {
     let mut free = 0;
-    let mut i = 0;
-    while i < n {
-        let w = words[i];
-        let start = fold_words::start_of(w);
-        let size = fold_words::size_of(w);
+    for w in words {
+        let start = fold_words::start_of(*w);
+        let size = fold_words::size_of(*w);
         if start < free {
             return false;
         }
@@ -25,23 +22,20 @@ pub fn rising(words: &[usize], n: usize, top: usize) -> bool
             return false;
         }
         free = start + size + 1;
-        i += 1;
     }
     true
 }
 
-// The bytes before each of n runs, and those of all.
-pub fn rank(words: &[usize], n: usize, ranks: &mut [usize]) -> usize
-    requires { (n ≤ length words.now) × (n ≤ length ranks.old) × (n ≤ 512) }
-    ensures value { (result ≡ sum_to words.now n) × Summed words.now n ranks.new }
+// The bytes before each run, and those of all.
+pub fn rank(words: &[usize], ranks: &mut [usize]) -> usize
+    requires { (length words.now ≤ length ranks.old) × (length words.now ≤ 512) }
+    ensures value { (result ≡ sum_to words.now (length words.now)) × Summed words.now (length words.now) ranks.new }
     ensures upper_bound { (result ≤ 33554432) × (length ranks.new ≡ length ranks.old) }
 {
     let mut sum = 0;
-    let mut i = 0;
-    while i < n {
+    for (i, w) in words.iter().enumerate() {
         ranks[i] = sum;
-        sum += fold_words::size_of(words[i]);
-        i += 1;
+        sum += fold_words::size_of(*w);
     }
     sum
 }

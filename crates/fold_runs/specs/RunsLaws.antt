@@ -1,21 +1,22 @@
 -- The runs of a pile, entry by entry.
 -- Assumes nothing.
-use Rattle.std.specs.Prelude.{ℕ, zero, suc, ◌+◌, ◌-◌, ◌*◌, ◌≤◌, ◌<◌, List, [], ◌∷◌, ◌≡◌, refl, length, get_or, set}
-use Rattle.std.proofs.Common.{sym, ap, ◌∙◌, arith, length-set}
-use Rattle.std.proofs.Math.Decide.{dec_lt, dec_le}
+use Rattle.std.specs.Prelude.{ℕ, zero, suc, ◌-◌, ◌≤◌, ◌<◌, List, ◌∷◌, ◌≡◌, refl, length, set}
+use Rattle.std.proofs.Common.{sym, ◌∙◌, arith}
 use Rattle.facts.specs.Fact.{Holds}
 use Rattle.sheet.specs.declared.Entry.{Entry}
-use Rattle.sheet.specs.Sheet.{sheet_fits, count, offset, size, position, entry_at}
-use Rattle.sheet.specs.ByteAt.{covers, byte_by, byte_at}
-use Rattle.sheet.specs.ByteAtLaws.{by_passes, byte_one}
-use Rattle.fold_pile.specs.Pile.{lies, sheet_at, after, sheets, Piled}
+use Rattle.sheet.specs.Sheet.{sheet_fits, count, offset, entry_at}
+use Rattle.sheet.specs.ByteAt.{byte_at}
+use Rattle.sheet.specs.ByteAtLaws.{byte_one}
+use Rattle.fold_pile.specs.Pile.{sheets}
+use Rattle.fold_pile.specs.SheetsLaws.{Fitting, piled_fitting}
 use Rattle.fold_cells.specs.SetAt.{over, set_from, set_at}
 use Rattle.fold_cells.specs.Cells.{Good, Reaches}
+use Rattle.fold_cells.specs.CellsLaws.{set_cons}
 use Rattle.fold_cells.specs.ReachLaws.{from_zero}
-use Rattle.fold_words.specs.Words.{start, Word, Filled, Named, Sound, Keeps}
+use Rattle.fold_words.specs.Words.{Word, Filled, Sound, Keeps}
 use Rattle.fold_words.specs.WordsLaws.{sound_set, named_word}
 use Rattle.fold_runs.specs.declared.Gathered.{Gathered}
-use Rattle.fold_runs.specs.Runs.{Holding, Clipped, Within, Takes, TakesSheet, Out}
+use Rattle.fold_runs.specs.Runs.{Holding, Clipped, Takes, TakesSheet}
 
 -- ---- an entry more
 
@@ -62,64 +63,44 @@ taking_end xs s r ys ss t = record { holding = t.holding; sound = t.sound }
 
 -- ---- the sheets of a pile
 
--- what stood before the sheets from `at` on, and these
-pub record Walking (p : List ℕ) (at : ℕ) : Type 0 where
-  pub ss : List (List ℕ)
+-- what stood before the sheets ss, and these
+pub record Walking (p : List ℕ) (ss : List (List ℕ)) : Type 0 where
   pub old : ℕ → ℕ
-  pub piled : Piled p at ss
+  pub fit : Fitting ss
   pub same : (k : ℕ) → set_at (sheets p) k ≡ set_from (old k) ss k
 
-pub walk_start : (p : List ℕ) → Good p → Walking p 0
+pub walk_start : (p : List ℕ) → Good p → Walking p (sheets p)
 unfolding set_at
-walk_start p good = record { ss = sheets p; old = λ k. 0; piled = good; same = λ k. refl }
+walk_start p good = record { old = λ k. 0; fit = piled_fitting p 0 (sheets p) good; same = λ k. refl }
 
-here : (p : List ℕ) (at : ℕ) (ss : List (List ℕ)) → Piled p at ss → at < length p → Holds (lies p at) × Holds (sheet_fits (sheet_at p at))
-here p at [] d h = absurd (omega arith)
-here p at (s ∷ ss) d h = (d.1, rw d.0 at d.2)
-
-pub walk_here : {p : List ℕ} {at : ℕ} → Walking p at → at < length p → Holds (lies p at) × Holds (sheet_fits (sheet_at p at))
-walk_here {p} {at} k h = here p at k.ss k.piled h
-
-set_cons : (old : ℕ) (s : List ℕ) (ss : List (List ℕ)) (k : ℕ) → set_from old (s ∷ ss) k ≡ set_from (over (byte_at s k) old) ss k
-unfolding set_from
-set_cons old s ss k = refl
-
-pub walk_next : (p : List ℕ) (at : ℕ) → Walking p at → at < length p → Walking p (after p at)
-walk_next p at w h = go w.ss w.piled w.same
-  where
-    go : (ss : List (List ℕ)) → Piled p at ss → ((k : ℕ) → set_at (sheets p) k ≡ set_from (w.old k) ss k) → Walking p (after p at)
-    go [] d same = absurd (omega arith)
-    go (s ∷ ss) d same =
-        record { ss = ss; old = λ k. over (byte_at s k) (w.old k); piled = d.3; same = λ k. same k ∙ set_cons (w.old k) s ss k }
+pub walk_next : (p s : List ℕ) (ss : List (List ℕ)) → Walking p (s ∷ ss) → Walking p ss
+walk_next p s ss w =
+    record { old = λ k. over (byte_at s k) (w.old k); fit = w.fit.1; same = λ k. w.same k ∙ set_cons (w.old k) s ss k }
 
 over_some : (new old : ℕ) → (new ≡ 0 → ⊥) → over new old ≡ 0 → ⊥
 over_some zero old h e = h refl
 over_some (suc b) old h e = omega arith
 
 -- what a sheet of the pile sets is set
-pub walk_set : (p : List ℕ) (at : ℕ) → Walking p at → at < length p → (k : ℕ) → (byte_at (sheet_at p at) k ≡ 0 → ⊥) → set_at (sheets p) k ≡ 0 → ⊥
-walk_set p at w h k some = go w.ss w.piled (w.same k)
-  where
-    go : (ss : List (List ℕ)) → Piled p at ss → set_at (sheets p) k ≡ set_from (w.old k) ss k → set_at (sheets p) k ≡ 0 → ⊥
-    go [] d same e = absurd (omega arith)
-    go (s ∷ ss) d same e =
-        over_some (byte_at s k) (w.old k) (rw d.0 some)
-        (from_zero ss (over (byte_at s k) (w.old k)) k (sym (same ∙ set_cons (w.old k) s ss k) ∙ e))
+pub walk_set : (p s : List ℕ) (ss : List (List ℕ)) → Walking p (s ∷ ss) → (k : ℕ) → (byte_at s k ≡ 0 → ⊥) → set_at (sheets p) k ≡ 0 → ⊥
+walk_set p s ss w k some e =
+    over_some (byte_at s k) (w.old k) some
+    (from_zero ss (over (byte_at s k) (w.old k)) k (sym (w.same k ∙ set_cons (w.old k) s ss k) ∙ e))
 
 -- the words so far
-pub record Gathering (p xs : List ℕ) (at : ℕ) (g : Gathered) (ys ss : List ℕ) : Type 0 where
-  pub walk : Walking p at
+pub record Gathering (p xs : List ℕ) (left : List (List ℕ)) (g : Gathered) (ys ss : List ℕ) : Type 0 where
+  pub walk : Walking p left
   pub holding : Holding g ys ss
   pub sound : Sound (set_at (sheets p)) xs → Sound (set_at (sheets p)) ys
 
-pub gathering_next : (p xs : List ℕ) (at : ℕ) (g h r : Gathered) (ys ss zs ts us vs : List ℕ) → Gathering p xs at g ys ss → at < length p
-    → TakesSheet ys (byte_at (sheet_at p at)) h zs ts → Holding r us vs → Keeps zs us → Gathering p xs (after p at) r us vs
-gathering_next p xs at g h r ys ss zs ts us vs c l t d k =
+pub gathering_next : (p xs s : List ℕ) (left : List (List ℕ)) (g h r : Gathered) (ys ss zs ts us vs : List ℕ) → Gathering p xs (s ∷ left) g ys ss
+    → TakesSheet ys (byte_at s) h zs ts → Holding r us vs → Keeps zs us → Gathering p xs left r us vs
+gathering_next p xs s left g h r ys ss zs ts us vs c t d k =
     record {
-      walk = walk_next p at c.walk l;
+      walk = walk_next p s left c.walk;
       holding = d;
-      sound = λ s. k.sound (set_at (sheets p)) (t.sound (set_at (sheets p)) (c.sound s) (walk_set p at c.walk l));
+      sound = λ f. k.sound (set_at (sheets p)) (t.sound (set_at (sheets p)) (c.sound f) (walk_set p s left c.walk));
     }
 
-pub gathering_start : (p xs : List ℕ) (g : Gathered) (ss : List ℕ) → Good p → Holding g xs ss → Gathering p xs 0 g xs ss
+pub gathering_start : (p xs : List ℕ) (g : Gathered) (ss : List ℕ) → Good p → Holding g xs ss → Gathering p xs (sheets p) g xs ss
 gathering_start p xs g ss good h = record { walk = walk_start p good; holding = h; sound = λ s. s }

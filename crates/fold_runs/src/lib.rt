@@ -2,17 +2,16 @@
 // every entry of the pile lies in a run.
 #![tactic(auto)]
 
-ghost use Rattle.std.specs.Prelude.{true, ◌≡◌, ℕ, ◌+◌, ◌≤◌, ◌<◌, length, get_or};
-ghost use Rattle.facts.specs.Fact.{Holds};
-ghost use Rattle.sheet.specs.Sheet.{sheet_fits};
+ghost use Rattle.std.specs.Prelude.{true, ◌≡◌, ℕ, ◌+◌, ◌≤◌, ◌<◌, length, get_or, IfSome};
 ghost use Rattle.sheet.specs.ByteAt.{byte_at};
 ghost use Rattle.fold_pile.specs.Pile.{sheets};
 ghost use Rattle.fold_cells.specs.SetAt.{set_at};
-ghost use Rattle.fold_cells.specs.Cells.{Good, Reaches};
+ghost use Rattle.fold_cells.specs.Cells.{Reaches};
 ghost use Rattle.fold_words.specs.Words.{start, size, Keeps, Sound};
 ghost use Rattle.fold_runs.specs.Runs.{Holding, Clipped, Within, Takes, TakesSheet, Out};
 
-use sheet::Entry;
+use fold_pile::Pile;
+use sheet::{Entry, Sheet};
 
 // How many words there are; how many of them, the first ones, are runs in order; up to where these reach; which of them is at hand; and how many
 // entries were met, of 1,024.
@@ -26,14 +25,14 @@ pub struct Gathered {
 }
 
 // The words in order; those of one sheet are.
-fn order(words: &mut [usize], n: usize, first: bool)
-    requires { (1 ≤ n) × (n ≤ 1024) × (length words.old ≡ 1024) }
+fn order(words: &mut [usize], first: bool)
+    requires { (1 ≤ length words.old) × (length words.old ≤ 1024) }
     ensures { Keeps words.old words.new }
 {
     if first {
         return;
     }
-    fold_words::sort(words, n);
+    fold_words::sort(words);
 }
 
 // All words as runs in order, the first 512 of them.
@@ -43,23 +42,16 @@ fn settle(words: &mut [usize], seats: &mut [u16], g: Gathered, first: bool) -> G
 {
     let n = g.n;
     if n == g.runs {
-        return Gathered {
-            n,
-            runs: n,
-            top: g.top,
-            at: 0,
-            met: g.met,
-        };
+        return Gathered { at: 0, ..g };
     }
-    order(words, n, first);
-    let r = fold_words::join(words, seats, n);
+    order(&mut words[..n], first);
+    let r = fold_words::join(&mut words[..n], seats);
     if r <= 512 {
         return Gathered {
             n: r,
             runs: r,
-            top: g.top,
             at: 0,
-            met: g.met,
+            ..g
         };
     }
     Gathered {
@@ -67,7 +59,7 @@ fn settle(words: &mut [usize], seats: &mut [u16], g: Gathered, first: bool) -> G
         runs: 512,
         top: fold_words::start_of(words[512]),
         at: 0,
-        met: g.met,
+        ..g
     }
 }
 
@@ -87,34 +79,25 @@ pub fn clip(w: Entry, top: usize) -> usize
     requires { (w.offset < 4294967296) × (w.size < 65536) × (w.offset < top) }
     ensures { Clipped w top result }
 {
-    let e = w.offset + w.size;
-    if top < e {
-        return top;
-    }
-    e
+    top.min(w.offset + w.size)
 }
 
-// The first of n runs from `from` on that ends after a.
-fn ahead(words: &[usize], n: usize, from: usize, a: usize) -> usize
-    requires { n ≤ length words.now }
-{
-    let mut i = from;
-    while i < n {
+// The first of the runs from `from` on that ends after a, or how many there are, as std's `partition_point` tells it.
+fn ahead(words: &[usize], from: usize, a: usize) -> usize {
+    for i in from..words.len() {
         let w = words[i];
         if a < fold_words::start_of(w) + fold_words::size_of(w) {
             return i;
         }
-        i += 1;
     }
-    i
+    words.len()
 }
 
-// Whether the positions from a up to e lie in run i of n.
-fn holds(words: &[usize], n: usize, i: usize, a: usize, e: usize) -> bool
-    requires { n ≤ length words.now }
-    ensures { result ≡ true → Within words.now n i a e }
+// Whether the positions from a up to e lie in run i.
+fn holds(words: &[usize], i: usize, a: usize, e: usize) -> bool
+    ensures { result ≡ true → Within words.now (length words.now) i a e }
 {
-    if n <= i {
+    if words.len() <= i {
         return false;
     }
     let w = words[i];
@@ -128,19 +111,18 @@ fn holds(words: &[usize], n: usize, i: usize, a: usize, e: usize) -> bool
     true
 }
 
-// The run of n that has the positions from a up to e, looked for at `seat` first and then from `from` on; n where none is found.
-pub fn find(words: &[usize], n: usize, seat: usize, from: usize, a: usize, e: usize) -> usize
-    requires { n ≤ length words.now }
-    ensures { result < n → Within words.now n result a e }
+// The run that has the positions from a up to e, looked for at `seat` first and then from `from` on.
+pub fn find(words: &[usize], seat: usize, from: usize, a: usize, e: usize) -> Option<usize>
+    ensures { IfSome result (λ r. Within words.now (length words.now) r a e) }
 {
-    if holds(words, n, seat, a, e) {
-        return seat;
+    if holds(words, seat, a, e) {
+        return Some(seat);
     }
-    let i = ahead(words, n, from, a);
-    if holds(words, n, i, a, e) {
-        return i;
+    let i = ahead(words, from, a);
+    if holds(words, i, a, e) {
+        return Some(i);
     }
-    n
+    None
 }
 
 // An entry that lies in none of the runs, as a word; where it lies in one, its seat.
@@ -151,34 +133,22 @@ fn add(words: &mut [usize], seats: &mut [u16], g: Gathered, w: Entry) -> Gathere
     let at = g.met;
     let met = (at + 1) % 1024;
     if g.top <= w.offset {
-        return Gathered {
-            n: g.n,
-            runs: g.runs,
-            top: g.top,
-            at: g.at,
-            met,
-        };
+        return Gathered { met, ..g };
     }
     let e = clip(w, g.top);
-    let i = ahead(words, g.runs, g.at, w.offset);
-    if holds(words, g.runs, i, w.offset, e) {
+    let runs = &words[..g.runs];
+    let i = ahead(runs, g.at, w.offset);
+    if holds(runs, i, w.offset, e) {
         seats[at] = i as u16;
-        return Gathered {
-            n: g.n,
-            runs: g.runs,
-            top: g.top,
-            at: i,
-            met,
-        };
+        return Gathered { at: i, met, ..g };
     }
     let n = g.n;
     words[n] = fold_words::word_of(w.offset, e - w.offset, at);
     Gathered {
         n: n + 1,
-        runs: g.runs,
-        top: g.top,
         at: i,
         met,
+        ..g
     }
 }
 
@@ -192,16 +162,14 @@ fn take(words: &mut [usize], seats: &mut [u16], g: Gathered, w: Entry) -> Gather
 }
 
 // The entries of a sheet.
-fn take_sheet(words: &mut [usize], seats: &mut [u16], g: Gathered, sheet: &[u8]) -> Gathered
-    requires { Holding g words.old seats.old × Holds (sheet_fits sheet.now) }
+fn take_sheet(words: &mut [usize], seats: &mut [u16], g: Gathered, sheet: &Sheet) -> Gathered
+    requires { Holding g words.old seats.old }
     ensures { TakesSheet words.old (byte_at sheet.now) result words.new seats.new }
 {
-    let m = words::le16(sheet, 12);
+    let m = sheet.count();
     let mut r = g;
-    let mut i = 0;
-    while i < m {
-        r = take(words, seats, r, sheet::entry_at(sheet, i));
-        i += 1;
+    for i in 0..m {
+        r = take(words, seats, r, sheet.entry(i));
     }
     r
 }
@@ -214,20 +182,14 @@ fn after_sheet(words: &mut [usize], seats: &mut [u16], g: Gathered, first: bool)
     if first {
         return settle(words, seats, g, true);
     }
-    Gathered {
-        n: g.n,
-        runs: g.runs,
-        top: g.top,
-        at: 0,
-        met: g.met,
-    }
+    Gathered { at: 0, ..g }
 }
 
 // The runs of a pile.
-pub fn gather(pile: &[u8], words: &mut [usize], seats: &mut [u16]) -> Gathered
-    requires { Good pile.now × (length words.old ≡ 1024) × (length seats.old ≡ 1024) }
+pub fn gather(pile: &Pile, words: &mut [usize], seats: &mut [u16]) -> Gathered
+    requires { (length words.old ≡ 1024) × (length seats.old ≡ 1024) }
     ensures holding { Holding result words.new seats.new × (result.n ≤ 512) }
-    ensures sound { Sound (set_at (sheets pile.now)) words.old → Sound (set_at (sheets pile.now)) words.new }
+    ensures sound { Sound (set_at (sheets pile.now.bytes.now)) words.old → Sound (set_at (sheets pile.now.bytes.now)) words.new }
 {
     let mut g = Gathered {
         n: 0,
@@ -236,13 +198,11 @@ pub fn gather(pile: &[u8], words: &mut [usize], seats: &mut [u16]) -> Gathered
         at: 0,
         met: 0,
     };
-    let mut at = 0;
-    while at < pile.len() {
-        let start = at + 4;
-        let end = start + words::le32(pile, at);
-        g = take_sheet(words, seats, g, &pile[start..end]);
-        g = after_sheet(words, seats, g, at == 0);
-        at = end;
+    let mut first = true;
+    for sheet in pile.sheets() {
+        g = take_sheet(words, seats, g, &Sheet::known(sheet));
+        g = after_sheet(words, seats, g, first);
+        first = false;
     }
     settle(words, seats, g, false)
 }

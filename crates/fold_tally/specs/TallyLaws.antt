@@ -1,7 +1,7 @@
 -- Laws of the count.
 -- Assumes nothing.
 use Rattle.std.specs.Prelude.{ℕ, zero, suc, ◌+◌, ◌-◌, ◌≤◌, ◌<◌, List, ◌≡◌, refl, length, get_or}
-use Rattle.std.proofs.Common.{sym, ap, ◌∙◌, add-one, add-suc, add-zero}
+use Rattle.std.proofs.Common.{sym, ap, ◌∙◌, add-one}
 use native.Mathlib.Omega.{arith}
 use Rattle.std.proofs.Math.Decide.{dec_lt, ℕ_discrete}
 use Rattle.std.specs.Int.Bits.{bit_or, or_add_and}
@@ -9,6 +9,11 @@ use Rattle.std.proofs.lemmas.Nat.{and_le_l, and_le_r}
 use Rattle.fold_cells.specs.Cells.{last, Unset, Shows, Bounded}
 use Rattle.fold_tally.specs.declared.Tally.{Tally}
 use Rattle.fold_tally.specs.Tally.{ended, stepped, tally_to, tally_of, through, Small, Gapped, Counted, Blank, Skipped}
+
+-- ---- nothing counted
+
+pub tally_none : (t : Tally) → (t.run ≡ 0) × ((t.runs ≡ 0) × (t.bytes ≡ 0)) → t ≡ record { run = 0; runs = 0; bytes = 0 }
+tally_none t h = λ i. record { run = h.0 i; runs = h.1.0 i; bytes = h.1.1 i }
 
 -- ---- a step
 

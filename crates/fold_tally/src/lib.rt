@@ -4,36 +4,39 @@
 ghost use Rattle.std.specs.Prelude.{true, ◌≡◌, ◌+◌, ◌≤◌, ◌<◌, length};
 ghost use Rattle.fold_pile.specs.Pile.{sheets};
 ghost use Rattle.fold_cells.specs.SetAt.{set_at};
-ghost use Rattle.fold_cells.specs.Cells.{Good};
 ghost use Rattle.fold_tally.specs.Tally.{stepped, through, Small, Gapped, Counted, Blank, Skipped};
 
+use fold_pile::Pile;
+
 // Up to some position: how long the run is that goes up to it, how many have ended, and how many positions are set.
-#[derive(Clone, Copy)]
+#[derive(Clone, Copy, Default)]
 pub struct Tally {
     pub run: usize,
     pub runs: usize,
     pub bytes: usize,
 }
 
-// One position more.
-pub fn step(c: u16, t: Tally) -> Tally
-    requires { Small t 1099511758848 }
-    ensures { result ≡ stepped c t }
-{
-    if c != 0 {
-        return Tally {
-            run: t.run + 1,
-            runs: t.runs,
-            bytes: t.bytes + 1,
-        };
-    }
-    if t.run == 0 {
-        return t;
-    }
-    Tally {
-        run: 0,
-        runs: t.runs + 1,
-        bytes: t.bytes,
+impl Tally {
+    // One position more.
+    pub fn step(self, c: u16) -> Tally
+        requires { Small self 1099511758848 }
+        ensures { result ≡ stepped c self }
+    {
+        if c != 0 {
+            return Tally {
+                run: self.run + 1,
+                bytes: self.bytes + 1,
+                ..self
+            };
+        }
+        if self.run == 0 {
+            return self;
+        }
+        Tally {
+            run: 0,
+            runs: self.runs + 1,
+            ..self
+        }
     }
 }
 
@@ -57,7 +60,7 @@ fn sixteen(cells: &[u16], i: usize) -> bool
     a | b | c | d == 0
 }
 
-// Passes cells in which nothing is set, sixteen at a time, but not the last.
+// Passes cells in which nothing is set, sixteen at a time, but not the last; a `for` in steps wouldn't tell where it ended.
 fn skip(cells: &[u16], i: usize) -> usize
     requires { i < length cells.now }
     ensures { Skipped cells.now i result }
@@ -77,14 +80,13 @@ fn skip_rest(cells: &[u16], i: usize) -> usize
     requires { i < length cells.now }
     ensures { Skipped cells.now i result }
 {
-    let mut k = i;
-    while cells.len() - k > 1 {
+    let last = cells.len() - 1;
+    for k in i..last {
         if cells[k] != 0 {
             return k;
         }
-        k += 1;
     }
-    k
+    last
 }
 
 // Where no run is open, passes cells in which nothing is set: they change nothing.
@@ -98,7 +100,7 @@ pub fn past(cells: &[u16], i: usize, run: usize) -> usize
     skip_rest(cells, skip(cells, i))
 }
 
-// All positions of a window.
+// All positions of a window; `past` moves the index over many at once, so it isn't a `for`.
 fn count_cells(cells: &[u16], t: Tally) -> Tally
     requires { Small t 1099511627776 × (length cells.now ≤ 65536) }
     ensures { result ≡ through cells.now (length cells.now) t }
@@ -107,7 +109,7 @@ fn count_cells(cells: &[u16], t: Tally) -> Tally
     let mut i = 0;
     while i < cells.len() {
         i = past(cells, i, u.run);
-        u = step(cells[i], u);
+        u = u.step(cells[i]);
         i += 1;
     }
     u
@@ -119,22 +121,18 @@ fn pass(at: usize, base: usize, t: Tally) -> Tally
     ensures { Gapped at base t result }
 {
     if at < base {
-        return step(0, t);
+        return t.step(0);
     }
     t
 }
 
-// All positions; or those up to some window, where there are too many by then.
-pub fn count(pile: &[u8], cells: &mut [u16]) -> Tally
-    requires { Good pile.now × (1 ≤ length cells.old) × (length cells.old ≤ 65536) }
-    ensures counted { Counted (set_at (sheets pile.now)) result }
+// All positions; or those up to some window, where there are too many by then. A window begins where something is set, so no range has them.
+pub fn count(pile: &Pile, cells: &mut [u16]) -> Tally
+    requires { (1 ≤ length cells.old) × (length cells.old ≤ 65536) }
+    ensures counted { Counted (set_at (sheets pile.now.bytes.now)) result }
     ensures cells_len_unchanged { length cells.new ≡ length cells.old }
 {
-    let mut t = Tally {
-        run: 0,
-        runs: 0,
-        bytes: 0,
-    };
+    let mut t = Tally::default();
     let mut at = 0;
     while at < 4295032831 {
         let base = fold_cells::next_set(pile, at);
@@ -144,10 +142,7 @@ pub fn count(pile: &[u8], cells: &mut [u16]) -> Tally
         }
         fold_cells::fill(cells, base, pile);
         t = count_cells(cells, t);
-        if 256 < t.runs {
-            return t;
-        }
-        if 65535 < t.bytes {
+        if t.runs > 256 || t.bytes > 65535 {
             return t;
         }
         at = base + cells.len();

@@ -1,9 +1,8 @@
 -- A fold by runs.
 -- Assumes nothing.
-use Rattle.std.specs.Prelude.{ℕ, suc, ◌+◌, ◌-◌, ◌*◌, ◌≤◌, ◌<◌, Bool, List, ◌++◌, ◌≡◌, length, get_or, drop}
+use Rattle.std.specs.Prelude.{ℕ, ◌+◌, ◌-◌, ◌*◌, ◌≤◌, ◌<◌, Bool, List, ◌++◌, ◌≡◌, length, get_or, drop}
 use Rattle.std.proofs.Math.Path.{refl, sym}
 use Rattle.std.proofs.Common.{ap, ◌∙◌, arith, length-drop, get_or-drop, ext_get_or}
-use Rattle.std.proofs.Math.Decide.{dec_lt}
 use Rattle.facts.specs.Fact.{Holds}
 use Rattle.answers.specs.declared.Identity.{Identity}
 use Rattle.fold_cells.specs.Cells.{last, Bounded}
@@ -11,11 +10,11 @@ use Rattle.fold_tally.specs.declared.Tally.{Tally}
 use Rattle.fold_tally.specs.Tally.{tally_to, tally_of, Counted}
 use Rattle.fold_tally.specs.TallyLaws.{runs_most}
 use Rattle.fold_sheet.specs.Folded.{sheet_of, size_of, onto}
-use Rattle.fold_sheet.specs.Placing.{put_header, out_to, Room}
+use Rattle.fold_sheet.specs.Placing.{put_header, Room}
 use Rattle.fold_sheet.specs.PlacingLaws.{length_put_header, put_header_above, length_sheet, written_sheet}
 use Rattle.fold_words.specs.Words.{Sound}
 use Rattle.fold_runs.specs.Runs.{Out}
-use Rattle.fold_ranks.specs.Ranks.{starts, sizes, ends, Rising, sum_to, Summed, Whole}
+use Rattle.fold_ranks.specs.Ranks.{starts, Rising, sum_to, Summed, Whole}
 use Rattle.fold_ranks.specs.RanksLaws.{before, ranked, ranked_all, sum_within}
 use Rattle.fold_bodies.specs.Bodies.{Rooms, Stands, LaidPile, runs_to}
 use Rattle.fold_bodies.specs.BodiesLaws.{runs_out}

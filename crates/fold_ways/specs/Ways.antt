@@ -2,30 +2,21 @@
 -- Assumes nothing.
 use Rattle.std.specs.Prelude.{ℕ, List, ◌≡◌, refl, length}
 use Rattle.facts.specs.Fact.{Holds}
-use Rattle.fold_pile.specs.Pile.{sheets, pile_identity}
-use Rattle.fold_cells.specs.SetAt.{set_at}
 use Rattle.fold_tally.specs.declared.Tally.{Tally}
 use Rattle.fold_tally.specs.Tally.{Counted}
-use Rattle.fold_sheet.specs.Folded.{sheet_of, onto}
+use Rattle.fold_sheet.specs.Folded.{onto}
 use Rattle.fold_room.specs.RoomBy.{room_by}
-
--- what the pile sets at each position
-abbrev pub sets : List ℕ → ℕ → ℕ
-sets p = set_at (sheets p)
-
--- the sheet of it
-unfoldable pub sheet_for : List ℕ → List ℕ
-sheet_for p = sheet_of (pile_identity p) (sets p)
+use Rattle.fold.specs.Fold.{pile_sets, folded_sheet}
 
 -- t is the count, or enough of it for 29; the buffer o has the sheet where there is room, and is as it was where there is none
 pub record Way (p o : List ℕ) (t : Tally) (q : List ℕ) : Type 0 where
-  pub counted : Counted (sets p) t
-  pub made : Holds (room_by t (length o)) → q ≡ onto (sheet_for p) o
+  pub counted : Counted (pile_sets p) t
+  pub made : Holds (room_by t (length o)) → q ≡ onto (folded_sheet p) o
   pub kept : (Holds (room_by t (length o)) → ⊥) → q ≡ o
 
-pub way_kept : (p o : List ℕ) (t : Tally) → Counted (sets p) t → (Holds (room_by t (length o)) → ⊥) → Way p o t o
+pub way_kept : (p o : List ℕ) (t : Tally) → Counted (pile_sets p) t → (Holds (room_by t (length o)) → ⊥) → Way p o t o
 way_kept p o t c out = record { counted = c; made = λ h. absurd (out h); kept = λ h. refl }
 
-pub way_made : (p o : List ℕ) (t : Tally) (q : List ℕ) → Counted (sets p) t → Holds (room_by t (length o)) → q ≡ onto (sheet_for p) o
+pub way_made : (p o : List ℕ) (t : Tally) (q : List ℕ) → Counted (pile_sets p) t → Holds (room_by t (length o)) → q ≡ onto (folded_sheet p) o
     → Way p o t q
 way_made p o t q c h e = record { counted = c; made = λ g. e; kept = λ out. absurd (out h) }

@@ -1,6 +1,6 @@
 -- Runs of positions as words. f is what is set at each position, 0 where nothing is.
 -- Assumes nothing.
-use Rattle.std.specs.Prelude.{ℕ, ◌+◌, ◌*◌, ◌/◌, ◌%◌, ◌≤◌, ◌<◌, List, ◌≡◌, length, get_or}
+use Rattle.std.specs.Prelude.{ℕ, ◌+◌, ◌/◌, ◌%◌, ◌≤◌, ◌<◌, List, ◌≡◌, length, get_or}
 use Rattle.fold_words.specs.declared.Open.{Open}
 
 -- where a word's run starts, and how long it is

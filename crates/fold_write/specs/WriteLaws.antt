@@ -1,13 +1,13 @@
 -- The walks that write go on as the folded sheet is defined.
 -- Assumes nothing.
-use Rattle.std.specs.Prelude.{ℕ, ◌+◌, ◌≤◌, ◌<◌, List, ◌≡◌, length, get_or}
+use Rattle.std.specs.Prelude.{ℕ, ◌+◌, ◌≤◌, ◌<◌, List, ◌≡◌, length}
 use Rattle.std.proofs.Math.Path.{refl}
-use Rattle.std.proofs.Common.{sym, ap, ◌∙◌, arith}
+use Rattle.std.proofs.Common.{ap, ◌∙◌, arith}
 use Rattle.fold_cells.specs.Cells.{last, Unset, Shows, Bounded}
 use Rattle.fold_tally.specs.declared.Tally.{Tally}
-use Rattle.fold_tally.specs.Tally.{stepped, tally_to, through, Small}
+use Rattle.fold_tally.specs.Tally.{tally_to, through, Small}
 use Rattle.fold_tally.specs.TallyLaws.{gap_tally, through_tally, tally_small, small_up}
-use Rattle.fold_sheet.specs.Placing.{placed, out_to, placed_cells, Safe, Room}
+use Rattle.fold_sheet.specs.Placing.{out_to, placed_cells, Safe, Room}
 use Rattle.fold_sheet.specs.WindowLaws.{gap_out, cells_out, safe_at}
 use Rattle.fold_write.specs.Write.{AllSafe, Gap}
 

@@ -1,4 +1,3 @@
-pub mod Passing
 pub mod Blocks
 pub mod BlocksLaws
 pub mod Counting

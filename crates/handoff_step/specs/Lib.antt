@@ -1,2 +1,4 @@
 pub mod Step
 pub mod StepLaws
+pub mod Passing
+pub mod Types

@@ -4,7 +4,9 @@
 ghost use Rattle.std.specs.Prelude.{◌≡◌, ◌+◌, ◌≤◌, ◌<◌, length};
 ghost use Rattle.facts.specs.Fact.{Tells};
 ghost use Rattle.facts.specs.Rules.{run};
-ghost use Rattle.handoff_step.specs.Step.{refusal, shown, head_fits, resource_at, from_resource, from_guid, from_end, from_later, from_first, from_head, Steps};
+ghost use Rattle.handoff_step.specs.Step.{refusal, shown, head_fits, resource_at, from_later, from_first, from_head, stepped, Steps};
+ghost use Rattle.handoff_step.specs.Passing.{brief, at_least, at_end};
+ghost use Rattle.handoff_step.specs.Types.{Typed};
 
 // Where the next block should stand, counted from the buffer's start. Anyone may make one up.
 #[derive(Clone, Copy)]
@@ -41,12 +43,45 @@ pub struct Block {
     pub kind: Kind,
 }
 
-// The answer of a step: number 0, the next cursor and the block; or the refusal's number, the same cursor and no block.
+// The answer of a step: number 0, the next cursor and the block; or the refusal's number, the same cursor and no block. `pajurenda` writes
+// it to C field by field.
 #[derive(Clone, Copy)]
 pub struct Stepped {
     pub number: u32,
     pub next: Cursor,
     pub block: Block,
+}
+
+// What a walk over all blocks needs of a step: where the next block should stand, and the type of the one that is passed. A block's own data
+// isn't read.
+#[derive(Clone, Copy)]
+pub struct Pass {
+    pub next: usize,
+    pub code: usize,
+}
+
+// The types of block that the rules name.
+#[derive(Clone, Copy)]
+enum BlockType {
+    Handoff,
+    Resource,
+    Guid,
+    End,
+    Other,
+}
+
+impl From<usize> for BlockType {
+    fn from(code: usize) -> BlockType
+        ensures { Typed code result }
+    {
+        match code {
+            1 => BlockType::Handoff,
+            3 => BlockType::Resource,
+            4 => BlockType::Guid,
+            65535 => BlockType::End,
+            _ => BlockType::Other,
+        }
+    }
 }
 
 fn refused(at: usize, number: u32) -> Stepped
@@ -95,72 +130,6 @@ fn resource_at(buffer: &[u8], at: usize) -> Kind
     }
 }
 
-// 33 for a resource.
-fn from_resource(buffer: &[u8], at: usize, n: usize) -> Stepped
-    requires { at + n ≤ length buffer.now }
-    ensures { result ≡ run (refusal at) (from_resource buffer.now at n) }
-{
-    if n < 48 {
-        return refused(at, 33);
-    }
-    show(at, 3, n, at + n, resource_at(buffer, at))
-}
-
-// 33 for a GUID block.
-fn from_guid(at: usize, n: usize) -> Stepped
-    requires { at + n < 18446744073709551616 }
-    ensures { result ≡ run (refusal at) (from_guid at n) }
-{
-    if n < 24 {
-        return refused(at, 33);
-    }
-    let kind = Kind::Guid {
-        place: at + 24,
-        length: n - 24,
-    };
-    show(at, 4, n, at + n, kind)
-}
-
-// 33 for an end block, on which the cursor stays.
-fn from_end(at: usize, n: usize) -> Stepped
-    ensures { result ≡ run (refusal at) (from_end at n) }
-{
-    if n != 8 {
-        return refused(at, 33);
-    }
-    show(at, 65535, n, at, Kind::End)
-}
-
-// A block after the first, by its type.
-fn from_later(buffer: &[u8], at: usize, t: usize, n: usize) -> Stepped
-    requires { at + n ≤ length buffer.now }
-    ensures { result ≡ run (refusal at) (from_later buffer.now at t n) }
-{
-    if t == 3 {
-        return from_resource(buffer, at, n);
-    }
-    if t == 4 {
-        return from_guid(at, n);
-    }
-    if t == 65535 {
-        return from_end(at, n);
-    }
-    show(at, t, n, at + n, Kind::Unknown)
-}
-
-// 31: the first block.
-fn from_first(t: usize, n: usize) -> Stepped
-    ensures { result ≡ run (refusal 0) (from_first t n) }
-{
-    if t != 1 {
-        return refused(0, 31);
-    }
-    if n != 56 {
-        return refused(0, 31);
-    }
-    show(0, t, n, n, Kind::Handoff)
-}
-
 // 30: whether a block's header and the length in it fit.
 pub fn head_fits(buffer: &[u8], at: usize) -> bool
     requires { at < length buffer.now }
@@ -182,20 +151,103 @@ pub fn head_fits(buffer: &[u8], at: usize) -> bool
     true
 }
 
+// 33 for a resource or a GUID block.
+fn pass_least(at: usize, code: usize, n: usize, least: usize) -> Result<Pass, u32>
+    requires { at + n < 18446744073709551616 }
+    ensures { result ≡ at_least at code n least }
+{
+    if n < least {
+        return Err(33);
+    }
+    Ok(Pass { next: at + n, code })
+}
+
+// 33 for an end block, on which the cursor stays.
+fn pass_end(at: usize, n: usize) -> Result<Pass, u32>
+    ensures { result ≡ at_end at n }
+{
+    if n != 8 {
+        return Err(33);
+    }
+    Ok(Pass {
+        next: at,
+        code: 65535,
+    })
+}
+
+// A block after the first, by its type.
+fn pass_later(buffer: &[u8], at: usize, t: usize, n: usize) -> Result<Pass, u32>
+    requires { at + n ≤ length buffer.now }
+    ensures { result ≡ brief (run (refusal at) (from_later buffer.now at t n)) }
+{
+    match BlockType::from(t) {
+        BlockType::Resource => pass_least(at, t, n, 48),
+        BlockType::Guid => pass_least(at, t, n, 24),
+        BlockType::End => pass_end(at, n),
+        BlockType::Handoff | BlockType::Other => Ok(Pass {
+            next: at + n,
+            code: t,
+        }),
+    }
+}
+
+// 31: the first block.
+fn pass_first(t: usize, n: usize) -> Result<Pass, u32>
+    ensures { result ≡ brief (run (refusal 0) (from_first t n)) }
+{
+    let BlockType::Handoff = BlockType::from(t) else {
+        return Err(31);
+    };
+    if n != 56 {
+        return Err(31);
+    }
+    Ok(Pass { next: n, code: t })
+}
+
 // 30, then what the block's place asks of it.
-fn from_head(buffer: &[u8], at: usize) -> Stepped
+fn pass_head(buffer: &[u8], at: usize) -> Result<Pass, u32>
     requires { at < length buffer.now }
-    ensures { result ≡ run (refusal at) (from_head buffer.now at) }
+    ensures { result ≡ brief (run (refusal at) (from_head buffer.now at)) }
 {
     if !head_fits(buffer, at) {
-        return refused(at, 30);
+        return Err(30);
     }
     let t = words::le16(buffer, at);
     let n = words::le16(buffer, at + 2);
     if at == 0 {
-        return from_first(t, n);
+        return pass_first(t, n);
     }
-    from_later(buffer, at, t, n)
+    pass_later(buffer, at, t, n)
+}
+
+// A step at `at`, in brief; or the number of 30 to 33, as C has it.
+pub fn pass_one(buffer: &[u8], at: usize) -> Result<Pass, u32>
+    ensures { result ≡ brief (stepped buffer.now at) }
+{
+    if buffer.len() <= at {
+        return Err(32);
+    }
+    pass_head(buffer, at)
+}
+
+// What a block that is passed is, with its own data.
+fn kind_at(buffer: &[u8], at: usize, t: usize, n: usize) -> Kind
+    requires { ((stepped buffer.now at).number ≡ 0) × (t ≡ (stepped buffer.now at).block.code)
+        × (n ≡ (stepped buffer.now at).block.length) }
+    ensures { result ≡ (stepped buffer.now at).block.kind }
+{
+    if at == 0 {
+        return Kind::Handoff;
+    }
+    match BlockType::from(t) {
+        BlockType::Resource => resource_at(buffer, at),
+        BlockType::Guid => Kind::Guid {
+            place: at + 24,
+            length: n - 24,
+        },
+        BlockType::End => Kind::End,
+        BlockType::Handoff | BlockType::Other => Kind::Unknown,
+    }
 }
 
 impl Cursor {
@@ -204,9 +256,11 @@ impl Cursor {
         ensures { Steps buffer.now self.at result }
     {
         let at = self.at;
-        if buffer.len() <= at {
-            return refused(at, 32);
-        }
-        from_head(buffer, at)
+        let s = match pass_one(buffer, at) {
+            Ok(s) => s,
+            Err(number) => return refused(at, number),
+        };
+        let n = words::le16(buffer, at + 2);
+        show(at, s.code, n, s.next, kind_at(buffer, at, s.code, n))
     }
 }

@@ -12,10 +12,11 @@ fn data_at(base: u64, i: usize, at: usize) -> usize
     requires { (base + i < 2 ^ 64) × (at + 25 < 2 ^ 64) }
     ensures { result ≡ data_at base i at }
 {
-    if !hex_text::turns_at(base, i) {
-        return at + 9;
+    if hex_text::turns_at(base, i) {
+        at + 16 + 9
+    } else {
+        at + 9
     }
-    at + 16 + 9
 }
 
 // The d bytes whose digits begin at `at`.
@@ -23,12 +24,10 @@ fn put_bytes(text: &[u8], at: usize, out: &mut [u8], i: usize, d: usize) -> usiz
     requires { (at + 2 * d ≤ length text.now) × (i + d ≤ length out.old) }
     ensures { Wrote out.old out.new i (bytes_at text.now at d) result }
 {
-    let mut j = 0;
-    while j < d {
+    for j in 0..d {
         out[i + j] = hex_judge::byte_at(text, at + 2 * j);
-        j += 1;
     }
-    i + j
+    i + d
 }
 
 // All of the n bytes.
@@ -37,12 +36,10 @@ pub fn put_all(text: &[u8], base: u64, n: usize, out: &mut [u8])
     ensures { out.new ≡ over (decoded_all text.now base n) out.old }
 {
     let mut at = 16;
-    let mut i = 0;
-    while i < n {
+    for i in (0..n).step_by(16) {
         let d = hex_text::part_length(n, i);
         let p = data_at(base, i, at);
         put_bytes(text, p, out, i, d);
         at = hex_text::text_length(base, i + d) - 12;
-        i += 16;
     }
 }

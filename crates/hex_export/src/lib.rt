@@ -7,7 +7,7 @@ ghost use Rattle.hex_text.specs.Hex.{sixteen, upper_line, data_line, part, all_p
 ghost use Rattle.hex_text.specs.Sizes.{part_length};
 ghost use Rattle.hex_export.specs.Export.{refused_export, Exports, Roomy};
 
-// The answer of export: a refusal, or number 0 and the length of the text.
+// The answer of export: a refusal, or number 0 and the length of the text. `pajurenda_hex` writes it to C field by field.
 #[derive(Clone, Copy)]
 pub struct Exported {
     pub number: u32,
@@ -20,7 +20,7 @@ fn put_upper(out: &mut [u8], at: usize, a: u64) -> usize
     ensures { Wrote out.old out.new at (upper_line a) result }
 {
     let upper = [(a / 16777216) as u8, (a / 65536 % 256) as u8];
-    hex_line::put_line(out, at, 4, 0, &upper, 0, 2)
+    hex_line::put_line(out, at, 4, 0, &upper)
 }
 
 // The data from byte i on.
@@ -30,7 +30,7 @@ fn put_data(out: &mut [u8], at: usize, base: u64, bytes: &[u8], i: usize) -> usi
 {
     let d = hex_text::part_length(bytes.len(), i);
     let address = ((base + i as u64) % 65536) as usize;
-    hex_line::put_line(out, at, 0, address, bytes, i, d)
+    hex_line::put_line(out, at, 0, address, &bytes[i..i + d])
 }
 
 // The same with the upper 16 bits before them where they are new.
@@ -51,10 +51,8 @@ fn put_parts(out: &mut [u8], base: u64, bytes: &[u8]) -> usize
     ensures { Wrote out.old out.new 0 (all_parts base bytes.now) result }
 {
     let mut at = put_upper(out, 0, base);
-    let mut i = 0;
-    while i < bytes.len() {
+    for i in (0..bytes.len()).step_by(16) {
         at = put_part(out, at, base, bytes, i);
-        i += 16;
     }
     at
 }
@@ -65,7 +63,7 @@ fn put_text(out: &mut [u8], base: u64, bytes: &[u8])
     ensures { out.new ≡ over (exported base bytes.now) out.old }
 {
     let at = put_parts(out, base, bytes);
-    hex_line::put_line(out, at, 1, 0, bytes, 0, 0);
+    hex_line::put_line(out, at, 1, 0, &[]);
 }
 
 fn refused(number: u32) -> Exported

@@ -1,6 +1,6 @@
 -- Which bytes at which base a text is of: at most one.
 -- Assumes nothing.
-use Rattle.std.specs.Prelude.{ℕ, ◌+◌, ◌*◌, ◌/◌, ◌%◌, ◌^◌, ◌≤◌, ◌<◌, List, ◌++◌, ◌≡◌, refl, length, drop}
+use Rattle.std.specs.Prelude.{ℕ, ◌+◌, ◌*◌, ◌/◌, ◌%◌, ◌^◌, ◌≤◌, ◌<◌, List, ◌++◌, ◌≡◌, length, drop}
 use Rattle.std.proofs.Math.Bool.{false}
 use Rattle.std.proofs.Common.{inl, inr, sym, ap, ◌∙◌, arith}
 use Rattle.std.proofs.Math.Decide.{dec_lt}
@@ -8,7 +8,7 @@ use Rattle.std.proofs.Math.ListN.{take}
 use Rattle.facts.specs.Fact.{Holds, test}
 use Rattle.facts.specs.FactLaws.{fails}
 use Rattle.header.specs.Base.{legal_base}
-use Rattle.hex_text.specs.Hex.{Exportable, exported, over, turns, upper_line, data_line, end_line, part, parts}
+use Rattle.hex_text.specs.Hex.{Exportable, exported, turns, upper_line, data_line, end_line, part, parts}
 use Rattle.hex_text.specs.Sizes.{up_to, text_length, length_exported, longer, no_shorter, part_stays}
 use Rattle.hex_text.specs.Splits.{part_of_parts}
 use Rattle.hex_judge.specs.Stands.{stands}
@@ -17,7 +17,7 @@ use Rattle.hex_parts.specs.Decoded.{decoded_all, Sized}
 use Rattle.hex_parts.specs.DecodedLaws.{upper_high, upper_low, part_there, decoded_exported, length_all, bytes_all}
 use Rattle.hex_import.specs.declared.Imported.{Imported}
 use Rattle.hex_import.specs.Import.{TextOf, Imports}
-use Rattle.hex_import.specs.Found.{base_of, LengthOf}
+use Rattle.hex_import.specs.Found.{base_of, Has}
 
 -- ---- the base
 
@@ -131,30 +131,29 @@ too_short {text} h base bytes t =
     under : (x y : ℕ) → x < 44 → x ≡ y → 44 ≤ y → ⊥
     under x y h e l = omega arith
 
-module _ {text : List ℕ} {n : ℕ} (found : LengthOf (length text) (base_of text) n) where
-  pub no_length : n ≡ 0 → (base : ℕ) (bytes : List ℕ) → TextOf text base bytes → ⊥
-  no_length e base bytes t =
-      found.none e (length bytes) t.good.fits.0 t.good.fits.1 (rw (its_base t) (its_length t))
+its_size : {text : List ℕ} {base : ℕ} {bytes : List ℕ} → TextOf text base bytes → Has (length text) (base_of text) (length bytes)
+its_size t = record { least = t.good.fits.0; most = t.good.fits.1; is = rw (its_base t) (its_length t) }
 
-  its_count : (n ≡ 0 → ⊥) → (base : ℕ) (bytes : List ℕ) → TextOf text base bytes → length bytes ≡ n
-  its_count some base bytes t =
-      let f = (found.found some).2 in
-      one_length base (length bytes) n (sym (its_length t) ∙ rw (its_base t) at f)
+pub no_length : {text : List ℕ} → ((m : ℕ) → Has (length text) (base_of text) m → ⊥) → (base : ℕ) (bytes : List ℕ) → TextOf text base bytes
+    → ⊥
+no_length none base bytes t = none (length bytes) (its_size t)
 
-  pub not_legal : (n ≡ 0 → ⊥) → (Holds (legal_base n (base_of text)) → ⊥) → (base : ℕ) (bytes : List ℕ) → TextOf text base bytes → ⊥
-  not_legal some no-base base bytes t =
-      no-base (rw (its_base t, ← its_count some base bytes t) t.good.legal)
+module _ {text : List ℕ} {n : ℕ} (f : Has (length text) (base_of text) n) where
+  its_count : (base : ℕ) (bytes : List ℕ) → TextOf text base bytes → length bytes ≡ n
+  its_count base bytes t = one_length base (length bytes) n (sym (its_length t) ∙ rw (its_base t) at f.is)
 
-  pub not_standing : (n ≡ 0 → ⊥) → (Holds (stands text 0 (exported (base_of text) (decoded_all text (base_of text) n))) → ⊥)
+  pub not_legal : (Holds (legal_base n (base_of text)) → ⊥) → (base : ℕ) (bytes : List ℕ) → TextOf text base bytes → ⊥
+  not_legal no-base base bytes t =
+      no-base (rw (its_base t, ← its_count base bytes t) t.good.legal)
+
+  pub not_standing : (Holds (stands text 0 (exported (base_of text) (decoded_all text (base_of text) n))) → ⊥)
       → (base : ℕ) (bytes : List ℕ) → TextOf text base bytes → ⊥
-  not_standing some no_text base bytes t =
-      let e : decoded_all text base n ≡ bytes = rw (its_count some base bytes t) at (its_bytes t) in
+  not_standing no_text base bytes t =
+      let e : decoded_all text base n ≡ bytes = rw (its_count base bytes t) at (its_bytes t) in
       no_text (rw (its_base t, e, ← t.is) (stands_self text))
 
-  pub sized : (n ≡ 0 → ⊥) → Holds (legal_base n (base_of text)) → Sized text (base_of text) n
-  sized some legal =
-      let f = found.found some in
-      record { least = f.0; most = f.1; even = legal.0; ends = legal.1; long = f.2 }
+pub sized : {text : List ℕ} {base n : ℕ} → Has (length text) base n → Holds (legal_base n base) → Sized text base n
+sized f legal = record { least = f.least; most = f.most; even = legal.0; ends = legal.1; long = f.is }
 
 -- what stands is the text of the bytes read
 pub text_of : {text : List ℕ} {base n : ℕ} → Sized text base n → Holds (stands text 0 (exported base (decoded_all text base n)))
@@ -201,10 +200,10 @@ pub record Halves (size base low high : ℕ) : Type 0 where
   pub least : 72 ≤ low
   pub order : low < high
   pub most : high ≤ 16777217
-  pub within : (m : ℕ) → 72 ≤ m → m ≤ 16777216 → size ≡ text_length base m → (low ≤ m) × (m < high)
+  pub within : (m : ℕ) → Has size base m → (low ≤ m) × (m < high)
 
 pub halves_all : (size base : ℕ) → Halves size base 72 16777217
-halves_all size base = record { least = omega arith; order = omega arith; most = omega arith; within = λ m h l e. (h, omega (arith, l)) }
+halves_all size base = record { least = omega arith; order = omega arith; most = omega arith; within = λ m h. (h.least, omega (arith, h.most)) }
 
 shorter : (base m n size : ℕ) → size ≡ text_length base m → text_length base n ≤ size → m < n → ⊥
 shorter base m n size e h l = under (up_to base m) (up_to base n) (longer base m n l) e h
@@ -225,8 +224,8 @@ module _ {size base low high : ℕ} (p : Halves size base low high) (mid : ℕ) 
         least = omega (arith, p.least, h);
         order = l;
         most = p.most;
-        within = λ m a b e.
-            (elim (dec_lt m mid) [ yes u ↦ absurd (shorter base m mid size e fits u) | no u ↦ omega (arith, u) ], (p.within m a b e).1);
+        within = λ m h.
+            (elim (dec_lt m mid) [ yes u ↦ absurd (shorter base m mid size h.is fits u) | no u ↦ omega (arith, u) ], (p.within m h).1);
       }
 
   pub halve_high : size < text_length base mid → Halves size base low mid
@@ -235,24 +234,16 @@ module _ {size base low high : ℕ} (p : Halves size base low high) (mid : ℕ) 
         least = p.least;
         order = h;
         most = omega (arith, p.most, l);
-        within = λ m a b e.
-            ((p.within m a b e).0, elim (dec_lt m mid) [ yes u ↦ u | no u ↦ absurd (no_longer base m mid size e past (omega (arith, u))) ]);
+        within = λ m h.
+            ((p.within m h).0, elim (dec_lt m mid) [ yes u ↦ u | no u ↦ absurd (no_longer base m mid size h.is past (omega (arith, u))) ]);
       }
 
 pub halved_none : {size base low high : ℕ} → Halves size base low high → high ≤ low + 1 → (text_length base low ≡ size → ⊥)
-    → LengthOf size base 0
-halved_none {size} {base} {low} {high} p end other =
-    record {
-      found = λ some. absurd (some refl);
-      none = λ z m a b e.
-          let w = p.within m a b e in
-          let is : m ≡ low = omega (arith, w.0, w.1, end) in
-          other (sym (rw is at e));
-    }
+    → (m : ℕ) → Has size base m → ⊥
+halved_none {low = low} p end other m h =
+    let w = p.within m h in
+    let is : m ≡ low = omega (arith, w.0, w.1, end) in
+    other (sym (rw is at h.is))
 
-pub halved : {size base low high : ℕ} → Halves size base low high → text_length base low ≡ size → LengthOf size base low
-halved {size} {base} {low} p is =
-    record {
-      found = λ some. (p.least, omega (arith, p.order, p.most), sym is);
-      none = λ z. absurd (omega (arith, z, p.least));
-    }
+pub halved : {size base low high : ℕ} → Halves size base low high → text_length base low ≡ size → Has size base low
+halved p is = record { least = p.least; most = omega (arith, p.order, p.most); is = sym is }

@@ -5,7 +5,7 @@ ghost use Rattle.std.specs.Prelude.{◌≡◌, ◌+◌, ◌≤◌, length};
 ghost use Rattle.hex_import.specs.Import.{refused_import, Imports};
 ghost use Rattle.hex_import.specs.Found.{base_of, LengthOf};
 
-// The answer of import: a refusal, or number 0, the base and how many bytes there are.
+// The answer of import: a refusal, or number 0, the base and how many bytes there are. `pajurenda_hex` writes it to C field by field.
 #[derive(Clone, Copy)]
 pub struct Imported {
     pub number: u32,
@@ -33,8 +33,9 @@ fn base_of(text: &[u8]) -> u64
     upper * 65536 + lower
 }
 
-// How many bytes at this base have a text of this size, or 0: more bytes have more text, so halving finds them.
-fn length_of(size: usize, base: u64) -> usize
+// How many bytes at this base have a text of this size: more bytes have more text, so halving finds them. The library's `partition_point`
+// halves a slice, and here is none.
+fn length_of(size: usize, base: u64) -> Option<usize>
     ensures { LengthOf size base result }
 {
     let mut low = 72;
@@ -48,9 +49,9 @@ fn length_of(size: usize, base: u64) -> usize
         }
     }
     if hex_text::text_length(base, low) != size {
-        return 0;
+        return None;
     }
-    low
+    Some(low)
 }
 
 // Reads a text, whatever it is, or refuses and changes nothing.
@@ -61,10 +62,9 @@ pub fn import(text: &[u8], out: &mut [u8]) -> Imported
         return refused(50);
     }
     let base = base_of(text);
-    let n = length_of(text.len(), base);
-    if n == 0 {
+    let Some(n) = length_of(text.len(), base) else {
         return refused(50);
-    }
+    };
     if !header::legal(base, n) {
         return refused(50);
     }

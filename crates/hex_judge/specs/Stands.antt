@@ -1,6 +1,6 @@
 -- What stands in a text: characters at a place, and the bytes that digits stand for.
 -- Assumes nothing.
-use Rattle.std.specs.Prelude.{ℕ, zero, suc, ◌+◌, ◌*◌, ◌/◌, ◌%◌, ◌≤◌, ◌<◌, List, [], ◌∷◌, ◌≡◌, get_or}
+use Rattle.std.specs.Prelude.{ℕ, zero, suc, ◌+◌, ◌*◌, ◌/◌, ◌%◌, ◌≤◌, List, [], ◌∷◌, ◌≡◌, get_or}
 use Rattle.facts.specs.Fact.{Fact, ◌≤?◌, ◌≡?◌, ◌and◌, Holds}
 use Rattle.hex_text.specs.Hex.{pairs, total}
 
@@ -22,7 +22,8 @@ unfoldable pub bytes_at : List ℕ → ℕ → ℕ → List ℕ
 bytes_at text at zero = []
 bytes_at text at (suc d) = byte_at text at ∷ bytes_at text (at + 2) d
 
--- r is the sum of d bytes, or above 4,080, which no 16 bytes come to, where their digits aren't all capital hex digits
+-- the digits of d bytes stand there, all capital, and r is the sum of the bytes
 pub record Summed (text : List ℕ) (at d r : ℕ) : Type 0 where
-  pub sum : r ≤ 4080 → Holds (stands text at (pairs (bytes_at text at d))) × (r ≡ total (bytes_at text at d))
-  pub bad : 4080 < r → Holds (stands text at (pairs (bytes_at text at d))) → ⊥
+  pub there : Holds (stands text at (pairs (bytes_at text at d)))
+  pub is : r ≡ total (bytes_at text at d)
+  pub small : r ≤ 255 * d

@@ -1,10 +1,10 @@
 -- Characters one after the other; digits read back.
 -- Assumes nothing.
-use Rattle.std.specs.Prelude.{ℕ, zero, suc, ◌+◌, ◌*◌, ◌/◌, ◌%◌, ◌≤◌, ◌<◌, List, [], ◌∷◌, ◌++◌, ◌≡◌, refl, length, get_or, drop}
+use Rattle.std.specs.Prelude.{Bool, true, false, ℕ, zero, suc, ◌+◌, ◌*◌, ◌/◌, ◌%◌, ◌≤◌, ◌<◌, List, [], ◌∷◌, ◌++◌, ◌≡◌, refl, length, get_or, drop}
 use Rattle.std.proofs.Common.{append_assoc, append-nil, sym, ap, subst, ◌∙◌, arith, add-zero, length-append, drop-cons}
 use Rattle.std.proofs.Math.Decide.{dec_le}
 use Rattle.std.proofs.Math.Seq.{drop-length, get_or-append_seam}
-use Rattle.facts.specs.Fact.{Holds, ◌≤?◌}
+use Rattle.facts.specs.Fact.{Fact, ◌≤?◌, Holds, Tells}
 use Rattle.facts.specs.FactLaws.{passes, fails}
 use Rattle.words.specs.Le.{Bytes}
 use Rattle.text_lines.specs.Text.{hex_digit}
@@ -12,6 +12,11 @@ use Rattle.hex_text.specs.Hex.{pairs, total, line}
 use Rattle.hex_text.specs.Sizes.{pairs_append, total_append, length_pairs}
 use Rattle.hex_text.specs.Splits.{sum_of, front_line, back_line, line_split}
 use Rattle.hex_judge.specs.Stands.{stands, value_of, byte_at, bytes_at}
+
+-- an answer says so of a check that amounts to the one it was made for
+pub tells_so : (r : Bool) (p q : Fact) → Tells r p → (Holds p → Holds q) → (Holds q → Holds p) → Tells r q
+tells_so true p q t f g = record { says = f t.says }
+tells_so false p q t f g = record { says = λ h. t.says (g h) }
 
 -- ---- characters one after the other
 

@@ -1,8 +1,8 @@
 // Document 02, #112: whether a record stands in a text.
 #![tactic(auto)]
 
-ghost use Rattle.std.specs.Prelude.{◌≡◌, [], ◌∷◌, ◌+◌, ◌*◌, ◌≤◌, ◌<◌, length};
-ghost use Rattle.facts.specs.Fact.{Tells};
+ghost use Rattle.std.specs.Prelude.{MatchOption, ◌≡◌, [], ◌∷◌, ◌+◌, ◌*◌, ◌≤◌, ◌<◌, length};
+ghost use Rattle.facts.specs.Fact.{Holds, Tells};
 ghost use Rattle.hex_text.specs.Hex.{pairs, line};
 ghost use Rattle.hex_text.specs.Splits.{front_line, back_line};
 ghost use Rattle.hex_judge.specs.Stands.{stands, value_of, byte_at, bytes_at, Summed};
@@ -36,22 +36,20 @@ fn is_pair(text: &[u8], at: usize, b: u8) -> bool
     true
 }
 
-// The sum of d bytes, or 4,081.
-fn sum_of(text: &[u8], at: usize, d: usize) -> usize
+// The sum of d bytes, if their digits stand there.
+fn sum_of(text: &[u8], at: usize, d: usize) -> Option<usize>
     requires { (at + 2 * d ≤ length text.now) × (d ≤ 16) }
-    ensures { Summed text.now at d result × (result ≤ 4081) }
+    ensures { MatchOption result (Holds (stands text.now at (pairs (bytes_at text.now at d))) → ⊥) (Summed text.now at d) }
 {
     let mut sum = 0;
-    let mut j = 0;
-    while j < d {
+    for j in 0..d {
         let b = byte_at(text, at + 2 * j);
         if !is_pair(text, at + 2 * j, b) {
-            return 4081;
+            return None;
         }
         sum += b as usize;
-        j += 1;
     }
-    sum
+    Some(sum)
 }
 
 // A record up to its data.
@@ -99,16 +97,12 @@ pub fn line_stands(text: &[u8], at: usize, kind: u8, address: usize, d: usize) -
     if !front_stands(text, at, kind, address, d) {
         return false;
     }
-    let sum = sum_of(text, at + 9, d);
-    if 4080 < sum {
+    let Some(sum) = sum_of(text, at + 9, d) else {
         return false;
-    }
-    if !back_stands(
+    };
+    back_stands(
         text,
         at + 9 + 2 * d,
         d + address / 256 + address % 256 + kind as usize + sum,
-    ) {
-        return false;
-    }
-    true
+    )
 }

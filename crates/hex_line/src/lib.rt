@@ -1,7 +1,7 @@
 // Document 02, #112: one record written.
 #![tactic(auto)]
 
-ghost use Rattle.std.specs.Prelude.{[], ◌∷◌, ◌+◌, ◌*◌, ◌≤◌, ◌<◌, length, take, drop};
+ghost use Rattle.std.specs.Prelude.{[], ◌∷◌, ◌+◌, ◌*◌, ◌≤◌, ◌<◌, length};
 ghost use Rattle.text_lines.specs.Lines.{Wrote};
 ghost use Rattle.hex_text.specs.Hex.{pairs, line};
 ghost use Rattle.hex_text.specs.Splits.{front_line, back_line};
@@ -17,18 +17,15 @@ fn put_pair(out: &mut [u8], at: usize, b: u8) -> usize
     at + 2
 }
 
-// The d bytes from byte i on, of which it hands back the sum.
-fn put_pairs(out: &mut [u8], at: usize, bytes: &[u8], i: usize, d: usize) -> u16
-    requires { (at + 2 * d ≤ length out.old) × (i + d ≤ length bytes.now) × (d ≤ 16) }
-    ensures { WrotePairs out.old out.new at (take d (drop i bytes.now)) result × (result ≤ 4080) }
+// Bytes, of which it hands back the sum.
+fn put_pairs(out: &mut [u8], at: usize, bytes: &[u8]) -> u16
+    requires { (at + 2 * length bytes.now ≤ length out.old) × (length bytes.now ≤ 16) }
+    ensures { WrotePairs out.old out.new at bytes.now result × (result ≤ 4080) }
 {
     let mut sum: u16 = 0;
-    let mut j = 0;
-    while j < d {
-        let b = bytes[i + j];
-        put_pair(out, at + 2 * j, b);
-        sum += b as u16;
-        j += 1;
+    for (j, b) in bytes.iter().enumerate() {
+        put_pair(out, at + 2 * j, *b);
+        sum += *b as u16;
     }
     sum
 }
@@ -55,21 +52,14 @@ fn put_back(out: &mut [u8], at: usize, sum: usize) -> usize
     p + 1
 }
 
-// A record with the d bytes from byte i on.
-pub fn put_line(
-    out: &mut [u8],
-    at: usize,
-    kind: u8,
-    address: usize,
-    bytes: &[u8],
-    i: usize,
-    d: usize,
-) -> usize
-    requires { (at + 12 + 2 * d ≤ length out.old) × (address < 65536) × (i + d ≤ length bytes.now) × (d ≤ 16) }
-    ensures { Wrote out.old out.new at (line kind address (take d (drop i bytes.now))) result }
+// A record with these bytes.
+pub fn put_line(out: &mut [u8], at: usize, kind: u8, address: usize, bytes: &[u8]) -> usize
+    requires { (at + 12 + 2 * length bytes.now ≤ length out.old) × (address < 65536) × (length bytes.now ≤ 16) }
+    ensures { Wrote out.old out.new at (line kind address bytes.now) result }
 {
+    let d = bytes.len();
     let p = put_front(out, at, kind, address, d);
-    let sum = put_pairs(out, p, bytes, i, d);
+    let sum = put_pairs(out, p, bytes);
     put_back(
         out,
         p + 2 * d,

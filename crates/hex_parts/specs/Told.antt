@@ -3,7 +3,7 @@
 use Rattle.std.specs.Prelude.{ℕ, suc, ◌+◌, ◌-◌, ◌*◌, ◌/◌, ◌%◌, ◌^◌, ◌≤◌, ◌<◌, Bool, true, false, List, ◌++◌, ◌≡◌, refl, take, drop}
 use Rattle.std.proofs.Common.{ap, ◌∙◌, arith}
 use Rattle.std.proofs.Math.ListN.{length}
-use Rattle.facts.specs.Fact.{Fact, Holds, Tells, test}
+use Rattle.facts.specs.Fact.{Fact, Holds, test}
 use Rattle.facts.specs.FactLaws.{holds, fails_not}
 use Rattle.hex_text.specs.Hex.{turns, upper_line, end_line, part, parts, exported}
 use Rattle.hex_text.specs.Sizes.{up_to, text_length, part_length, chunk, length_parts, all_parts_lem, fits_stays, fits_turns}
@@ -12,11 +12,6 @@ use Rattle.hex_judge.specs.Stands.{stands, bytes_at}
 use Rattle.hex_judge.specs.StandsLaws.{stands_split, stands_join}
 use Rattle.hex_parts.specs.Decoded.{data_at, chunk_at, decoded, decoded_all, Sized}
 use Rattle.hex_parts.specs.DecodedLaws.{part_told, parts_told, length_all, bytes_all}
-
--- an answer says so of a check that amounts to the one it was made for
-pub tells_so : (r : Bool) (p q : Fact) → Tells r p → (Holds p → Holds q) → (Holds q → Holds p) → Tells r q
-tells_so true p q t f g = record { says = f t.says }
-tells_so false p q t f g = record { says = λ h. t.says (g h) }
 
 -- byte i, of n, begins a part, which begins at `at`
 pub record Placed (base n at i : ℕ) : Type 0 where

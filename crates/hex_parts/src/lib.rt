@@ -56,14 +56,12 @@ fn parts_stand(text: &[u8], base: u64, n: usize) -> bool
         return false;
     }
     let mut at = 16;
-    let mut i = 0;
-    while i < n {
+    for i in (0..n).step_by(16) {
         let d = hex_text::part_length(n, i);
         if !part_stands(text, at, base, i, d) {
             return false;
         }
         at = hex_text::text_length(base, i + d) - 12;
-        i += 16;
     }
     true
 }

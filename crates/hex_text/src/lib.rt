@@ -29,10 +29,7 @@ pub fn part_length(n: usize, i: usize) -> usize
     requires { i ≤ n }
     ensures { result ≡ part_length n i }
 {
-    if n - i < 16 {
-        return n - i;
-    }
-    16
+    (n - i).min(16)
 }
 
 // Whether byte i begins a new 64 KiB of address.
@@ -40,11 +37,5 @@ pub fn turns_at(base: u64, i: usize) -> bool
     requires { base + i < 2 ^ 64 }
     ensures { Tells result (turns base i) }
 {
-    if i == 0 {
-        return false;
-    }
-    if (base + i as u64) % 65536 != 0 {
-        return false;
-    }
-    true
+    i != 0 && (base + i as u64) % 65536 == 0
 }

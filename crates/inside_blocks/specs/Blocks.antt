@@ -1,6 +1,6 @@
 -- Request #107: the items of one module: its headers with the image base, then its relocation blocks with their entries.
 -- Assumes nothing.
-use Rattle.inside_rows.specs.Rows.{pe_kind, te_kind}
+use Rattle.inside_rows.specs.Rows.{pe_kind, te_kind, module_number}
 use Rattle.std.specs.Prelude.{ℕ, zero, suc, ◌+◌, ◌-◌, ◌*◌, ◌/◌, ◌%◌, cond, List, [], ◌∷◌, ◌++◌, ltb, eqb}
 use Rattle.facts.specs.Fact.{Fact, ◌≤?◌, ◌≡?◌, ◌and◌, test}
 use Rattle.words.specs.Le.{le}
@@ -27,7 +27,7 @@ heads_from m (suc k) = head_item m k ∷ heads_from m k
 
 -- a PE32 module has four, a TE module three, anything else none
 unfoldable pub head_count : Module → ℕ
-head_count m = cond (eqb m.kind pe_kind) 4 (cond (eqb m.kind te_kind) 3 0)
+head_count m = cond (eqb (module_number m.kind) pe_kind) 4 (cond (eqb (module_number m.kind) te_kind) 3 0)
 
 -- ---- blocks
 

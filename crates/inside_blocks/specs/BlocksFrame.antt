@@ -1,6 +1,6 @@
 -- Which bytes the items of a module go by: its headers but for the image base, and its relocation blocks.
 -- Assumes nothing.
-use Rattle.inside_rows.specs.Rows.{bad_kind, pe_kind, te_kind}
+use Rattle.inside_rows.specs.Rows.{bad_kind, pe_kind, te_kind, module_number}
 use Prim.Native.Nat.{ℕ, zero, suc, ◌+◌, ◌-◌, ◌*◌, ◌/◌, ◌%◌, ◌<◌}
 use Rattle.std.specs.Prelude.{Bool, true, false, List, [], ◌∷◌, ◌++◌, ◌⊎◌, ◌≡◌}
 use Rattle.std.proofs.Common.{inl, inr, ◌∙◌, arith, eq-eqb, ne_eqb}
@@ -93,17 +93,17 @@ module _ (a b : List ℕ) (m : Module) (rows : Alike a b m.table (40 * m.rows)) 
       )
 
 -- the header items have all bytes that the module is read from
-heads_seen : (a b : List ℕ) (m : Module) → (m.kind ≡ pe_kind) ⊎ (m.kind ≡ te_kind) → Kept a b (heads_from m (head_count m)) → Seen a b m
+heads_seen : (a b : List ℕ) (m : Module) → (module_number m.kind ≡ pe_kind) ⊎ (module_number m.kind ≡ te_kind) → Kept a b (heads_from m (head_count m)) → Seen a b m
 unfolding heads_from head_item head_count Kept
 heads_seen a b m (inl k) kept =
-    let seen : Kept a b (heads_from m 4) = rw (eq-eqb m.kind pe_kind k) at kept in
+    let seen : Kept a b (heads_from m 4) = rw (eq-eqb (module_number m.kind) pe_kind k) at kept in
     record { dos = λ e. seen.0 (λ z. omega arith); before = seen.1.0 (λ z. omega arith); after = seen.1.1.1.0 (λ z. omega arith) }
 heads_seen a b m (inr k) kept =
-    let seen : Kept a b (heads_from m 3) = rw (ne_eqb m.kind pe_kind (λ e. omega arith), eq-eqb m.kind te_kind k) at kept in
+    let seen : Kept a b (heads_from m 3) = rw (ne_eqb (module_number m.kind) pe_kind (λ e. omega arith), eq-eqb (module_number m.kind) te_kind k) at kept in
     record { dos = λ e. absurd (omega arith); before = seen.0 (λ z. omega arith); after = seen.1.1.0 (λ z. omega arith) }
 
 -- a module whose items are kept has its headers kept, where it isn't broken
-pub items_seen : (a b : List ℕ) (lo hi : ℕ) (m : Module) → Empty m ⊎ Lies lo hi m → (m.kind ≡ bad_kind → ⊥) → Kept a b (items a m) → Seen a b m
+pub items_seen : (a b : List ℕ) (lo hi : ℕ) (m : Module) → Empty m ⊎ Lies lo hi m → (module_number m.kind ≡ bad_kind → ⊥) → Kept a b (items a m) → Seen a b m
 unfolding items
 items_seen a b lo hi m (inl (inl e)) ok kept =
     rw e

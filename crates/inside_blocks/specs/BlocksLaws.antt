@@ -1,6 +1,6 @@
 -- The cursor goes through the items of a module.
 -- Assumes nothing.
-use Rattle.inside_rows.specs.Rows.{pe_kind, te_kind}
+use Rattle.inside_rows.specs.Rows.{pe_kind, te_kind, module_number}
 use Prim.Native.Nat.{ℕ, zero, suc, ◌+◌, ◌-◌, ◌*◌, ◌/◌, ◌%◌, ◌≤◌, ◌<◌}
 use Rattle.std.specs.Prelude.{Bool, true, false, ◌≡◌, ltb, eqb}
 use mathlib.Core.List.{List, [], ◌∷◌, ◌++◌}
@@ -13,7 +13,7 @@ use Rattle.facts.specs.FactLaws.{says, passes, fails}
 use Rattle.facts.specs.RulesLaws.{by_cond}
 use Rattle.words.specs.Le.{le}
 use Rattle.items.specs.declared.Item.{Item}
-use Rattle.items.specs.Items.{keep, broken, end_kind}
+use Rattle.items.specs.Items.{keep, broken, end_kind, kind_number}
 use Rattle.inside_rows.specs.declared.Module.{Module}
 use Rattle.inside_modules.specs.ModulesFit.{Fits}
 use Rattle.inside_places.specs.declared.Span.{Span}
@@ -140,8 +140,8 @@ module _ (xs : List ℕ) (m : Module) where
 pub count_few : (m : Module) → head_count m ≤ 4
 unfolding head_count
 count_few m =
-    by_cond (λ (n : ℕ). n ≤ 4) (eqb m.kind pe_kind) _ _ (λ e. omega arith)
-    (λ e. by_cond (λ (n : ℕ). n ≤ 4) (eqb m.kind te_kind) _ _ (λ f. omega arith) (λ f. omega arith))
+    by_cond (λ (n : ℕ). n ≤ 4) (eqb (module_number m.kind) pe_kind) _ _ (λ e. omega arith)
+    (λ e. by_cond (λ (n : ℕ). n ≤ 4) (eqb (module_number m.kind) te_kind) _ _ (λ f. omega arith) (λ f. omega arith))
 
 pub start_valid : (xs : List ℕ) (m : Module) → Valid xs (start_of m)
 unfolding start_of
@@ -177,9 +177,9 @@ module _ (xs : List ℕ) (m : Module) (u : ℕ) where
   unfolding ahead
   ahead_after c z = rw (z, heads_none m)
 
-  pub met : (s : Turn) → u < m.size → Stepped xs m before s → s.next.heads ≡ 0 → 1 ≤ s.item.kind → Met xs m u s
+  pub met : (s : Turn) → u < m.size → Stepped xs m before s → s.next.heads ≡ 0 → 1 ≤ kind_number s.item.kind → Met xs m u s
   met s h step z some =
-      let is : s.item.kind ≡ end_kind → ⊥ = λ e. omega arith in
+      let is : kind_number s.item.kind ≡ end_kind → ⊥ = λ e. omega arith in
       record {
         all = sym ahead_before ∙ step.goes is ∙ ap (λ (l : List Item). s.item ∷ l) (ahead_after s.next z);
         less = omega (arith, step.less is);

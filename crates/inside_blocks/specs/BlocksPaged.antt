@@ -6,8 +6,9 @@ use Rattle.std.proofs.Math.Decide.{ℕ_discrete}
 use borrow.Author.Tests.{le-ltb, eq-eqb, ne_eqb, eqb-true}
 use Rattle.facts.specs.RulesLaws.{by_cond}
 use Rattle.items.specs.declared.Item.{Item}
-use Rattle.items.specs.Items.{word, word_kind}
+use Rattle.items.specs.Items.{word, word_kind, kind_number}
 use Rattle.inside_rows.specs.declared.Module.{Module}
+use Rattle.inside_rows.specs.declared.ModuleKind.{ModuleKind}
 use Rattle.inside_places.specs.Places.{found}
 use Rattle.inside_pages.specs.declared.Page.{Page}
 use Rattle.inside_pages.specs.Pages.{Paged}
@@ -16,7 +17,7 @@ use Rattle.inside_runs.specs.RunsLaws.{width_four, width_eight, width_none}
 use Rattle.inside_blocks.specs.Blocks.{word_of, item_of}
 
 -- a module by its fields
-abbrev pub module_from : ℕ → ℕ → ℕ → ℕ → ℕ → ℕ → ℕ → ℕ → ℕ → ℕ → ℕ → Module
+abbrev pub module_from : ModuleKind → ℕ → ℕ → ℕ → ℕ → ℕ → ℕ → ℕ → ℕ → ℕ → ℕ → Module
 module_from kind lo hi pe base width table rows stripped dir size =
     record {
       kind = kind;
@@ -34,10 +35,10 @@ module_from kind lo hi pe base width table rows stripped dir size =
 
 -- an item that is no word
 abbrev Other : Item → Type 0
-Other x = x.kind ≡ word_kind → ⊥
+Other x = kind_number x.kind ≡ word_kind → ⊥
 
 -- an entry that names no word is none
-pub item_none : (xs : List ℕ) (m : Module) (page e : ℕ) → width_of e ≡ 0 → (item_of xs m page e).kind ≡ word_kind → ⊥
+pub item_none : (xs : List ℕ) (m : Module) (page e : ℕ) → width_of e ≡ 0 → kind_number (item_of xs m page e).kind ≡ word_kind → ⊥
 unfolding item_of
 item_none xs m page e z =
     by_cond Other (eqb (e / 4096) 0) _ _ (λ a k. omega arith)

@@ -1,12 +1,13 @@
 -- One step of the walk over a module: what a cursor has yet to pass, and the cursor after its next item.
 -- Assumes nothing.
-use Rattle.items.specs.Items.{end_kind, kept_kind}
+use Rattle.items.specs.Items.{end_kind, kept_kind, kind_number}
 use Rattle.std.specs.Prelude.{ℕ, ◌+◌, ◌-◌, ◌*◌, ◌≤◌, ◌<◌, List, [], ◌∷◌, ◌++◌, ◌⊎◌, ◌≡◌, length}
 use Rattle.items.specs.declared.Item.{Item}
 use Rattle.inside_rows.specs.declared.Module.{Module}
 use Rattle.inside_blocks.specs.declared.Cursor.{Cursor}
 use Rattle.inside_blocks.specs.declared.Turn.{Turn}
 use Rattle.inside_blocks.specs.Blocks.{blocks_from, entries_from, head_count, heads_from}
+use Rattle.items.specs.Shapes.{Small}
 
 -- ---- the cursor
 
@@ -36,14 +37,14 @@ EntriesIn p k c = (p ≤ c.at) × (c.at + 2 * c.left ≤ p + k)
 
 -- a step from c: its item is the next of those ahead, and the rest is ahead of the cursor that it gives
 pub record Stepped (xs : List ℕ) (m : Module) (c : Cursor) (s : Turn) : Type 0 where
-  pub ends : s.item.kind ≡ end_kind → ahead xs m c ≡ []
-  pub goes : (s.item.kind ≡ end_kind → ⊥) → ahead xs m c ≡ s.item ∷ ahead xs m s.next
-  pub less : (s.item.kind ≡ end_kind → ⊥) → far m s.next < far m c
+  pub ends : kind_number s.item.kind ≡ end_kind → ahead xs m c ≡ []
+  pub goes : (kind_number s.item.kind ≡ end_kind → ⊥) → ahead xs m c ≡ s.item ∷ ahead xs m s.next
+  pub less : (kind_number s.item.kind ≡ end_kind → ⊥) → far m s.next < far m c
   pub valid : Valid xs s.next
   -- entries to come lie in the block at hand, or there are none, or they lie in the block just met
   pub held : EntriesIn c.at (2 * c.left) s.next
-      ⊎ ((s.next.left ≡ 0) ⊎ ((s.item.kind ≡ kept_kind) × EntriesIn s.item.at s.item.len s.next))
-  pub small : s.item.at + s.item.len < 1099511627776
+      ⊎ ((s.next.left ≡ 0) ⊎ ((kind_number s.item.kind ≡ kept_kind) × EntriesIn s.item.at s.item.len s.next))
+  pub small : Small s.item
 
 -- s is the block at u bytes of the directory: its item is the next, then its entries, then the blocks after it
 pub record Met (xs : List ℕ) (m : Module) (u : ℕ) (s : Turn) : Type 0 where
@@ -51,4 +52,4 @@ pub record Met (xs : List ℕ) (m : Module) (u : ℕ) (s : Turn) : Type 0 where
       ≡ s.item ∷ (entries_from xs m s.next.page s.next.at s.next.left ++ blocks_from xs m (m.size - s.next.used) s.next.used)
   pub less : m.size - s.next.used < m.size - u
   pub valid : Valid xs s.next
-  pub small : s.item.at + s.item.len < 1099511627776
+  pub small : Small s.item

@@ -9,6 +9,7 @@ use Rattle.words.specs.Put.{digit}
 use Rattle.words.specs.Number.{number, zeros}
 use Rattle.items.specs.Items.{keep, word, skip, lost}
 use Rattle.inside_rows.specs.declared.Module.{Module}
+use Rattle.inside_rows.specs.declared.ModuleKind.TheVariants.{Pe32}
 use Rattle.inside_rows.specs.Rows.{row_at}
 use Rattle.inside_places.specs.Places.{row_of, found_in, found}
 use Rattle.inside_blocks.specs.Blocks.{word_of, item_of, entries_from, blocks_from}
@@ -21,7 +22,7 @@ bytes raw =
 
 pub one : Module
 one =
-    record { kind = 0x10; lo = 0; hi = 64; pe = 0; base = 0; width = 0; table = 0; rows = 1; stripped = 40; dir = 100; size = 12 }
+    record { kind = Pe32; lo = 0; hi = 64; pe = 0; base = 0; width = 0; table = 0; rows = 1; stripped = 40; dir = 100; size = 12 }
 
 pub example : blocks_from (bytes 24) one one.size 0 ≡ keep 40 12 ∷ word 56 4 ∷ skip ∷ []
 unfolding bytes number digit zeros one blocks_from entries_from item_of word_of found found_in row_of row_at first_fault first_from test le

@@ -9,11 +9,13 @@ ghost use Rattle.inside_pages.specs.Pages.{Paged};
 ghost use Rattle.inside_blocks.specs.Blocks.{head_item, head_count, word_of, item_of, block_fits};
 ghost use Rattle.inside_blocks.specs.BlocksWalk.{start_of, Valid, Stepped, Met};
 ghost use Rattle.inside_blocks.specs.BlocksPaged.{module_from};
+ghost use Rattle.items.specs.Items.{kind_number};
+ghost use Rattle.items.specs.Shapes.{Small};
 
 use inside_pages::Page;
 use inside_places::Span;
-use inside_rows::Module;
-use items::Item;
+use inside_rows::{Module, ModuleKind};
+use items::{Item, Kind};
 
 // Where the walk stands in a module: headers to come, bytes of the directory that are used, the next entry, entries left in its block, and
 // that block's page.
@@ -35,25 +37,25 @@ pub struct Turn {
 // The item k before the last of the headers.
 pub fn head_item(m: Module, k: usize) -> Item
     requires { (m.pe ≤ m.base) × (m.base + m.width ≤ m.table) × (m.table + 40 * m.rows ≤ 16777216) × (m.lo ≤ m.pe) }
-    ensures { (result ≡ head_item m k) × (result.at + result.len < 1099511627776) × (1 ≤ result.kind) }
+    ensures { (result ≡ head_item m k) × Small result × (1 ≤ kind_number result.kind) }
 {
     if k == 3 {
         return Item {
-            kind: items::KEPT,
+            kind: Kind::Kept,
             at: m.lo,
             len: 64,
         };
     }
     if k == 2 {
         return Item {
-            kind: items::KEPT,
+            kind: Kind::Kept,
             at: m.pe,
             len: m.base - m.pe,
         };
     }
     if k == 1 {
         return Item {
-            kind: items::WORD,
+            kind: Kind::Word,
             at: m.base,
             len: m.width,
         };
@@ -61,7 +63,7 @@ pub fn head_item(m: Module, k: usize) -> Item
     let from = m.base + m.width;
     let end = m.table + 40 * m.rows;
     Item {
-        kind: items::KEPT,
+        kind: Kind::Kept,
         at: from,
         len: end - from,
     }
@@ -75,30 +77,24 @@ fn head_step(image: &[u8], m: Module, c: Cursor) -> Turn
     let item = head_item(m, k);
     Turn {
         item,
-        next: Cursor {
-            heads: k,
-            used: c.used,
-            at: c.at,
-            left: c.left,
-            page: c.page,
-        },
+        next: Cursor { heads: k, ..c },
     }
 }
 
 // A word of w bytes that lies so.
 fn word_of(m: Module, s: Span, w: usize) -> Item
     requires { (s.at < 68719476736) × (w ≤ 8) }
-    ensures { (result ≡ word_of m s w) × (result.at + result.len < 1099511627776) × (1 ≤ result.kind) }
+    ensures { (result ≡ word_of m s w) × Small result × (1 ≤ kind_number result.kind) }
 {
     if m.hi < s.at + w {
         return Item {
-            kind: items::LOST,
+            kind: Kind::Lost,
             at: 0,
             len: 0,
         };
     }
     Item {
-        kind: items::WORD,
+        kind: Kind::Word,
         at: s.at,
         len: w,
     }
@@ -106,13 +102,13 @@ fn word_of(m: Module, s: Span, w: usize) -> Item
 
 fn item_of(image: &[u8], m: Module, page: usize, e: usize) -> Item
     requires { Fits image.now m × (page < 4294967296) }
-    ensures { (result ≡ item_of image.now m page e) × (result.at + result.len < 1099511627776) × (1 ≤ result.kind) }
+    ensures { (result ≡ item_of image.now m page e) × Small result × (1 ≤ kind_number result.kind) }
 {
     let kind = e / 4096;
     let rva = page + e % 4096;
     if kind == 0 {
         return Item {
-            kind: items::SKIPPED,
+            kind: Kind::Skipped,
             at: 0,
             len: 0,
         };
@@ -124,7 +120,7 @@ fn item_of(image: &[u8], m: Module, page: usize, e: usize) -> Item
         return word_of(m, inside_places::find(image, m, rva, 8), 8);
     }
     Item {
-        kind: items::ALIEN,
+        kind: Kind::Alien,
         at: 0,
         len: 0,
     }
@@ -133,7 +129,7 @@ fn item_of(image: &[u8], m: Module, page: usize, e: usize) -> Item
 // The item of the entry at `at`, in a block with this page.
 pub fn entry(image: &[u8], m: Module, page: usize, at: usize) -> Item
     requires { Fits image.now m × (page < 4294967296) × (at + 2 ≤ length image.now) }
-    ensures { (result ≡ item_of image.now m page (le 2 image.now at)) × (result.at + result.len < 1099511627776) × (1 ≤ result.kind) }
+    ensures { (result ≡ item_of image.now m page (le 2 image.now at)) × Small result × (1 ≤ kind_number result.kind) }
 {
     item_of(image, m, page, words::le16(image, at))
 }
@@ -141,7 +137,7 @@ pub fn entry(image: &[u8], m: Module, page: usize, at: usize) -> Item
 // The same of a module by its fields: a loop that seldom comes here then copies no module for each entry.
 fn entry_apart(
     image: &[u8],
-    kind: u32,
+    kind: ModuleKind,
     lo: usize,
     hi: usize,
     pe: usize,
@@ -156,7 +152,7 @@ fn entry_apart(
     at: usize,
 ) -> Item
     requires { Fits image.now (module_from kind lo hi pe base width table rows stripped dir size) × (page < 4294967296) × (at + 2 ≤ length image.now) }
-    ensures { (result ≡ item_of image.now (module_from kind lo hi pe base width table rows stripped dir size) page (le 2 image.now at)) × (result.at + result.len < 1099511627776) × (1 ≤ result.kind) }
+    ensures { (result ≡ item_of image.now (module_from kind lo hi pe base width table rows stripped dir size) page (le 2 image.now at)) × Small result × (1 ≤ kind_number result.kind) }
 {
     let m = Module {
         kind,
@@ -177,14 +173,14 @@ fn entry_apart(
 // The same for a page whose place is known: a word in its room is one sum away, and only another entry is searched for.
 pub fn entry_on(image: &[u8], m: Module, q: Page, at: usize) -> Item
     requires { Fits image.now m × Paged image.now m q.page q × (q.page < 4294967296) × (at + 2 ≤ length image.now) }
-    ensures { (result ≡ item_of image.now m q.page (le 2 image.now at)) × (result.at + result.len < 1099511627776) × (1 ≤ result.kind) }
+    ensures { (result ≡ item_of image.now m q.page (le 2 image.now at)) × Small result × (1 ≤ kind_number result.kind) }
 {
     let e = words::le16(image, at);
     let w = inside_runs::width(e);
     let o = e % 4096;
     if inside_runs::is_sure(q, o, w) {
         return Item {
-            kind: items::WORD,
+            kind: Kind::Word,
             at: q.at + o,
             len: w,
         };
@@ -203,11 +199,9 @@ fn entry_step(image: &[u8], m: Module, c: Cursor) -> Turn
     Turn {
         item,
         next: Cursor {
-            heads: c.heads,
-            used: c.used,
             at: c.at + 2,
             left: c.left - 1,
-            page: c.page,
+            ..c
         },
     }
 }
@@ -237,13 +231,13 @@ fn block_fits(image: &[u8], m: Module, s: Span) -> bool
 
 fn block_step(image: &[u8], m: Module, c: Cursor) -> Turn
     requires { Fits image.now m × (c.used < m.size) × (c.left ≡ 0) × (c.heads ≡ 0) }
-    ensures { Stepped image.now m c result × (result.next.heads ≡ 0) × (1 ≤ result.item.kind) }
+    ensures { Stepped image.now m c result × (result.next.heads ≡ 0) × (1 ≤ kind_number result.item.kind) }
 {
     let s = inside_places::find(image, m, m.dir + c.used, 8);
     if !block_fits(image, m, s) {
         return Turn {
             item: Item {
-                kind: items::BROKEN,
+                kind: Kind::Broken,
                 at: s.at,
                 len: 8,
             },
@@ -259,7 +253,7 @@ fn block_step(image: &[u8], m: Module, c: Cursor) -> Turn
     let k = words::le32(image, s.at + 4);
     Turn {
         item: Item {
-            kind: items::KEPT,
+            kind: Kind::Kept,
             at: s.at,
             len: k,
         },
@@ -294,10 +288,10 @@ pub fn block_at(image: &[u8], m: Module, used: usize) -> Turn
 fn head_count(m: Module) -> usize
     ensures { result ≡ head_count m }
 {
-    if m.kind == inside_rows::PE32 {
+    if m.kind == ModuleKind::Pe32 {
         return 4;
     }
-    if m.kind == inside_rows::TE {
+    if m.kind == ModuleKind::Te {
         return 3;
     }
     0
@@ -316,7 +310,7 @@ pub fn start(m: Module) -> Cursor
     }
 }
 
-// The next item, with the cursor after it; kind 0 at the end.
+// The next item, with the cursor after it; the last is `End`.
 pub fn step(image: &[u8], m: Module, c: Cursor) -> Turn
     requires { Fits image.now m × Valid image.now c }
     ensures { Stepped image.now m c result }
@@ -332,7 +326,7 @@ pub fn step(image: &[u8], m: Module, c: Cursor) -> Turn
     }
     Turn {
         item: Item {
-            kind: items::END,
+            kind: Kind::End,
             at: 0,
             len: 0,
         },

@@ -1,5 +1,6 @@
 pub mod Free
 pub mod Parts
+pub mod PartKinds
 pub mod PartsWalk
 pub mod PartsLaws
 pub mod PartsEach

@@ -6,39 +6,47 @@ use Rattle.facts.specs.Fact.{Fact, ◌≤?◌, ◌≡?◌, ◌and◌, ◌or◌, 
 use Rattle.words.specs.Le.{le}
 use Rattle.volume.specs.Volume.{file_held, section_held}
 use Rattle.inside_files.specs.declared.Part.{Part}
+use Rattle.inside_files.specs.declared.PartKind.{PartKind}
+use Rattle.inside_files.specs.declared.PartKind.TheVariants.{End, Header, Section, Broken}
 use Rattle.inside_files.specs.declared.Place.{Place}
 
--- ---- the kinds of parts, by their numbers
+-- ---- the kinds of parts, by their numbers, which checks compare
+
+abbrev pub part_number : PartKind → ℕ
+part_number End = 0
+part_number Header = 1
+part_number Section = 2
+part_number Broken = 3
 
 -- nothing is left
 abbrev pub no_part : ℕ
-no_part = 0
+no_part = part_number End
 
 -- a file's header, or the free end
 abbrev pub header_part : ℕ
-header_part = 1
+header_part = part_number Header
 
 -- a section
 abbrev pub section_part : ℕ
-section_part = 2
+section_part = part_number Section
 
 -- no file or section where one should be
 abbrev pub broken_part : ℕ
-broken_part = 5
+broken_part = part_number Broken
 
 -- ---- the parts
 
 -- a file's header, or the free end
 abbrev pub header : ℕ → ℕ → Part
-header at len = record { kind = header_part; at = at; len = len; sort = 0 }
+header at len = record { kind = Header; at = at; len = len; sort = 0 }
 
 -- no file or section where one should be
 abbrev pub broken : ℕ → Part
-broken at = record { kind = broken_part; at = at; len = 0; sort = 0 }
+broken at = record { kind = Broken; at = at; len = 0; sort = 0 }
 
 -- a section of this size and type
 abbrev pub section : ℕ → ℕ → ℕ → Part
-section at len t = record { kind = section_part; at = at; len = len; sort = t }
+section at len t = record { kind = Section; at = at; len = len; sort = t }
 
 -- from f on only 0xFF bytes remain
 abbrev pub free : List ℕ → ℕ → ℕ → Fact

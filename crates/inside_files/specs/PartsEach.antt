@@ -12,7 +12,7 @@ use Rattle.facts.specs.RulesLaws.{by_cond, by_test}
 use Rattle.words.specs.Le.{le}
 use Rattle.inside_files.specs.declared.Part.{Part}
 use Rattle.inside_files.specs.declared.Place.{Place}
-use Rattle.inside_files.specs.Parts.{free, file_fits, section_fits, broken_part, header_part, section_part}
+use Rattle.inside_files.specs.Parts.{free, file_fits, section_fits, broken_part, header_part, section_part, part_number}
 use Rattle.inside_files.specs.Parts.{sections_from, sections_at, files_from, ahead}
 use Rattle.inside_files.specs.PartsLaws.{sections_at_lem, sections_end}
 
@@ -33,10 +33,10 @@ each_fork P (p ∷ l) k (h, t) = let (s, r) = each_fork P l k t in ((h, s), r)
 -- it starts at n or after; it is a header with some bytes, a section or broken; a header starts below w, a section ends by w
 pub record Met (n w : ℕ) (p : Part) : Type 0 where
   pub up : n ≤ p.at
-  pub kind : (p.kind ≡ header_part) ⊎ ((p.kind ≡ section_part) ⊎ (p.kind ≡ broken_part))
-  pub some : p.kind ≡ header_part → 1 ≤ p.len
-  pub under : p.kind ≡ header_part → p.at < w
-  pub within : p.kind ≡ section_part → p.at + p.len ≤ w
+  pub kind : (part_number p.kind ≡ header_part) ⊎ ((part_number p.kind ≡ section_part) ⊎ (part_number p.kind ≡ broken_part))
+  pub some : part_number p.kind ≡ header_part → 1 ≤ p.len
+  pub under : part_number p.kind ≡ header_part → p.at < w
+  pub within : part_number p.kind ≡ section_part → p.at + p.len ≤ w
 
 module _ (xs : List ℕ) (n w : ℕ) where
   sections_met : (end k p : ℕ) → n ≤ p → end ≤ w → Each (Met n w) (sections_from xs end k p)

@@ -15,7 +15,7 @@ use Rattle.volume.specs.Volume.{file_sum}
 use Rattle.volume.specs.VolumeLaws.{sum_bytes_lem}
 use Rattle.inside_files.specs.declared.Part.{Part}
 use Rattle.inside_files.specs.declared.Place.{Place}
-use Rattle.inside_files.specs.Parts.{header, broken, section, free, file_fits, section_fits, broken_part, header_part, section_part}
+use Rattle.inside_files.specs.Parts.{header, broken, section, free, file_fits, section_fits, broken_part, header_part, section_part, part_number}
 use Rattle.inside_files.specs.Parts.{sections_from, sections_at, files_from, first_at, first_place, ahead}
 use Rattle.inside_files.specs.PartsLaws.{sections_none, sections_end, sections_broken, sections_next}
 use Rattle.inside_files.specs.PartsLaws.{end_of, sections_of, files_none, files_end, files_free, files_broken, files_next}
@@ -23,9 +23,9 @@ use Rattle.inside_files.specs.PartsEach.{Each, each_fork}
 
 -- it isn't broken, and a and b agree on the bytes of it that are looked at
 pub record Seen (a b : List ℕ) (p : Part) : Type 0 where
-  pub whole : p.kind ≡ broken_part → ⊥
-  pub header : p.kind ≡ header_part → Alike a b p.at p.len
-  pub section : p.kind ≡ section_part → Alike a b p.at 4
+  pub whole : part_number p.kind ≡ broken_part → ⊥
+  pub header : part_number p.kind ≡ header_part → Alike a b p.at p.len
+  pub section : part_number p.kind ≡ section_part → Alike a b p.at 4
 
 -- a number of one byte
 byte : (xs : List ℕ) (at : ℕ) → le 1 xs at ≡ get_or xs at 0

@@ -8,18 +8,22 @@ ghost use Rattle.inside_files.specs.Parts.{free, file_fits, section_fits, sectio
 ghost use Rattle.inside_files.specs.Free.{Full};
 ghost use Rattle.inside_files.specs.PartsWalk.{last_turn, Valid, Stepped};
 
-pub const NO_PART: u32 = 0;
+// What a part is.
+#[derive(Clone, Copy, PartialEq, Eq)]
+pub enum PartKind {
+    // Nothing is left.
+    End,
+    // A file's header, or the free end.
+    Header,
+    Section,
+    // No file or section where one should be.
+    Broken,
+}
 
-pub const HEADER: u32 = 1;
-
-pub const SECTION: u32 = 2;
-
-pub const BROKEN: u32 = 5;
-
-// What the walk meets: 1 a file's header or the free end, 2 a section, 5 none where one should be; 0 the end.
+// What the walk meets.
 #[derive(Clone, Copy)]
 pub struct Part {
-    pub kind: u32,
+    pub kind: PartKind,
     pub at: usize,
     pub len: usize,
     pub sort: usize,
@@ -64,15 +68,13 @@ fn skip_blocks(image: &[u8], v: usize, f: usize) -> usize
     requires { (v ≤ length image.now) × (f ≤ v) }
     ensures { (f + result ≤ v) × Full image.now f result }
 {
-    let n = v - f;
-    let mut i = 0;
-    while n - i >= 32 {
-        if !is_full(image, f + i) {
-            return i;
+    let n = (v - f) / 32;
+    for i in 0..n {
+        if !is_full(image, f + 32 * i) {
+            return 32 * i;
         }
-        i += 32;
     }
-    i
+    32 * n
 }
 
 // The same, eight at a time where no 32 are left.
@@ -80,15 +82,15 @@ fn skip_free(image: &[u8], v: usize, f: usize) -> usize
     requires { (v ≤ length image.now) × (f ≤ v) }
     ensures { (f + result ≤ v) × ((k : ℕ) → k < result → get_or image.now (f + k) 0 ≡ 255) }
 {
-    let n = v - f;
-    let mut i = skip_blocks(image, v, f);
-    while n - i >= 8 {
-        if words::le64(image, f + i) != 18446744073709551615 {
-            return i;
+    let from = skip_blocks(image, v, f);
+    let n = (v - f - from) / 8;
+    for i in 0..n {
+        let k = from + 8 * i;
+        if words::le64(image, f + k) != 18446744073709551615 {
+            return k;
         }
-        i += 8;
     }
-    i
+    from + 8 * n
 }
 
 // Whether none remains, or the first is 0xFF, as a file's is hardly ever.
@@ -114,12 +116,10 @@ fn is_free(image: &[u8], v: usize, f: usize) -> bool
     if !may_be_free(image, v, f) {
         return false;
     }
-    let mut i = skip_free(image, v, f);
-    while i < n {
+    for i in skip_free(image, v, f)..n {
         if image[f + i] != 255 {
             return false;
         }
-        i += 1;
     }
     true
 }
@@ -139,45 +139,9 @@ fn sections_at(image: &[u8], f: usize) -> usize
     f + 24
 }
 
-fn section_step(image: &[u8], v: usize, c: Place) -> Turn
-    requires { (v ≤ length image.now) × (v ≤ 16777216) × Valid v c × (c.at < c.end) }
-    ensures { Stepped image.now v c result }
-{
-    let p = c.at;
-    if !volume_file::section_held(image, c.end, p, 4) {
-        return Turn {
-            part: Part {
-                kind: BROKEN,
-                at: p,
-                len: 0,
-                sort: 0,
-            },
-            next: Place {
-                file: c.file,
-                end: 0,
-                at: 0,
-            },
-        };
-    }
-    let size = words::le24(image, p);
-    Turn {
-        part: Part {
-            kind: SECTION,
-            at: p,
-            len: size,
-            sort: words::byte(image, p + 3),
-        },
-        next: Place {
-            file: c.file,
-            end: c.end,
-            at: (p + size + 3) / 4 * 4,
-        },
-    }
-}
-
-// The part of a volume after which none comes.
-fn last(v: usize, kind: u32, at: usize, len: usize) -> Turn
-    ensures { result ≡ last_turn v kind at len }
+// A part after which none comes before the file at `file`.
+fn last(file: usize, kind: PartKind, at: usize, len: usize) -> Turn
+    ensures { result ≡ last_turn file kind at len }
 {
     Turn {
         part: Part {
@@ -187,9 +151,32 @@ fn last(v: usize, kind: u32, at: usize, len: usize) -> Turn
             sort: 0,
         },
         next: Place {
-            file: v,
+            file,
             end: 0,
             at: 0,
+        },
+    }
+}
+
+fn section_step(image: &[u8], v: usize, c: Place) -> Turn
+    requires { (v ≤ length image.now) × (v ≤ 16777216) × Valid v c × (c.at < c.end) }
+    ensures { Stepped image.now v c result }
+{
+    let p = c.at;
+    if !volume_file::section_held(image, c.end, p, 4) {
+        return last(c.file, PartKind::Broken, p, 0);
+    }
+    let size = words::le24(image, p);
+    Turn {
+        part: Part {
+            kind: PartKind::Section,
+            at: p,
+            len: size,
+            sort: words::byte(image, p + 3),
+        },
+        next: Place {
+            at: (p + size + 3) / 4 * 4,
+            ..c
         },
     }
 }
@@ -200,16 +187,16 @@ fn file_step(image: &[u8], v: usize, c: Place) -> Turn
 {
     let f = c.file;
     if is_free(image, v, f) {
-        return last(v, 1, f, v - f);
+        return last(v, PartKind::Header, f, v - f);
     }
     if !volume_file::file_held(image, v, f, 24) {
-        return last(v, 5, f, 0);
+        return last(v, PartKind::Broken, f, 0);
     }
     let end = f + words::le24(image, f + 20);
     let at = sections_at(image, f);
     Turn {
         part: Part {
-            kind: HEADER,
+            kind: PartKind::Header,
             at: f,
             len: 24,
             sort: 0,
@@ -271,7 +258,7 @@ pub fn step(image: &[u8], v: usize, c: Place) -> Turn
     }
     Turn {
         part: Part {
-            kind: NO_PART,
+            kind: PartKind::End,
             at: 0,
             len: 0,
             sort: 0,

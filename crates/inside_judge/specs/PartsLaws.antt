@@ -8,23 +8,24 @@ use Rattle.inside_rows.specs.declared.Module.{Module}
 use Rattle.inside_blocks.specs.declared.Cursor.{Cursor}
 use Rattle.inside_blocks.specs.BlocksWalk.{start_of}
 use Rattle.inside_blocks.specs.Blocks.{heads_from, head_count, blocks_from, items}
-use Rattle.inside_walk.specs.Whole.{module_in, item_for, spread, walked}
+use Rattle.inside_walk.specs.Whole.{spread, walked}
 use Rattle.inside_judge.specs.declared.Judged.{Judged}
+use Rattle.inside_judge.specs.declared.limits.Limits.{Limits}
 use Rattle.inside_judge.specs.Judges.{JudgesOn, Noted}
 use Rattle.inside_judge.specs.JudgesLaws.{on_none, on_more}
 use Rattle.inside_judge.specs.RunsLaws.{on_join}
 use Rattle.inside_judge.specs.Parts.{part_items}
 
 -- one item, then others
-pub on_first : (x : Item) (l : List Item) (E c z : ℕ) (r s u : Judged) → Noted E c z r x s → JudgesOn l E c z s u
-    → JudgesOn (x ∷ l) E c z r u
-on_first x l E c z r s u n rest = on_join (x ∷ []) l E c z r s u (on_more [] E c z r r s x (on_none E c z r) n) rest
+pub on_first : (x : Item) (l : List Item) (lim : Limits) (r s u : Judged) → Noted lim r x s → JudgesOn l lim s u
+    → JudgesOn (x ∷ l) lim r u
+on_first x l lim r s u n rest = on_join (x ∷ []) l lim r s u (on_more [] lim r r s x (on_none lim r) n) rest
 
 -- the headers of a module, then its blocks
-pub on_items : (xs : List ℕ) (m : Module) (E c z : ℕ) (r s u : Judged) → JudgesOn (heads_from m (head_count m)) E c z r s
-    → JudgesOn (blocks_from xs m m.size 0) E c z s u → JudgesOn (items xs m) E c z r u
+pub on_items : (xs : List ℕ) (m : Module) (lim : Limits) (r s u : Judged) → JudgesOn (heads_from m (head_count m)) lim r s
+    → JudgesOn (blocks_from xs m m.size 0) lim s u → JudgesOn (items xs m) lim r u
 unfolding items
-on_items xs m E c z r s u a b = on_join (heads_from m (head_count m)) (blocks_from xs m m.size 0) E c z r s u a b
+on_items xs m lim r s u a b = on_join (heads_from m (head_count m)) (blocks_from xs m m.size 0) lim r s u a b
 
 -- a part, then those after it
 pub spread_next : (xs : List ℕ) (p : Part) (l : List Part) → spread xs (p ∷ l) ≡ part_items xs p ++ spread xs l

@@ -4,11 +4,12 @@ use Rattle.std.specs.Prelude.{ℕ, ◌+◌, ◌≤◌, ◌≡◌}
 use Rattle.facts.specs.Fact.{Fact, ◌≤?◌, ◌and◌, ◌or◌}
 use Rattle.inside_pages.specs.declared.Page.{Page}
 use Rattle.inside_judge.specs.declared.Judged.{Judged}
+use Rattle.inside_judge.specs.declared.limits.Limits.{Limits}
 
 -- whatever starts in the page, from its floor on, may be a word: it lies at or above E, and no byte up to the last that it can have is in the
 -- region
-abbrev pub clear_page : Page → ℕ → ℕ → ℕ → Fact
-clear_page q E c z = q.floor ≤? 4096 and E ≤? q.at + q.floor and (q.at + 4104 ≤? c or c + z ≤? q.at + q.floor)
+abbrev pub clear_page : Page → Limits → Fact
+clear_page q lim = q.floor ≤? 4096 and lim.E ≤? q.at + q.floor and (q.at + 4104 ≤? lim.c or lim.c + lim.z ≤? q.at + q.floor)
 
 -- r becomes u as words in the gap are passed that end by `end`
 pub record Later (r : Judged) (end : ℕ) (u : Judged) : Type 0 where

@@ -1,6 +1,6 @@
 -- What the words of a page that are passed come to, and how a block's entries are cut in two.
 -- Assumes nothing.
-use Prim.Native.Nat.{ℕ, zero, suc, ◌+◌, ◌*◌, ◌/◌, ◌%◌, ◌≤◌, ◌<◌}
+use Prim.Native.Nat.{ℕ, zero, suc, ◌+◌, ◌*◌, ◌%◌, ◌≤◌, ◌<◌}
 use Rattle.std.specs.Prelude.{Bool, ◌&&◌, ◌≡◌, refl}
 use Rattle.std.proofs.Math.Bool.{and-true}
 use mathlib.Core.List.{List, [], ◌∷◌, ◌++◌, append_assoc, append-nil}
@@ -15,7 +15,7 @@ use Rattle.items.specs.Judged.{off, sound, placed, known}
 use Rattle.inside_rows.specs.declared.Module.{Module}
 use Rattle.apart_front.specs.declared.Front.{Front}
 use Rattle.apart_front.specs.Fronts.{aside, Fronts}
-use Rattle.apart_front.specs.FrontsLaws.{unknown, fronts_join}
+use Rattle.apart_front.specs.FrontsLaws.{fronts_lost, fronts_join}
 use Rattle.inside_pages.specs.declared.Page.{Page}
 use Rattle.inside_pages.specs.Pages.{Paged}
 use Rattle.inside_runs.specs.Runs.{width_of, entry, InRoom, AnyIn, Lain}
@@ -24,12 +24,13 @@ use Rattle.inside_blocks.specs.Blocks.{item_of, entries_from}
 use Rattle.inside_blocks.specs.BlocksLaws.{entries_more}
 use Rattle.inside_blocks.specs.BlocksPaged.{item_on}
 use Rattle.inside_judge.specs.declared.Judged.{Judged}
+use Rattle.inside_judge.specs.declared.limits.Limits.{Limits}
 use Rattle.inside_judge.specs.Judges.{ends_by, JudgesOn, Noted}
 use Rattle.inside_judge.specs.JudgesLaws.{ends_by_lem, on_none, on_more, higher, tells_join}
 use Rattle.inside_judge.specs.Runs.{clear_page, Later, Astray, AstrayBy}
 
-pub on_join : (a b : List Item) (E c z : ℕ) (r s u : Judged) → JudgesOn a E c z r s → JudgesOn b E c z s u → JudgesOn (a ++ b) E c z r u
-on_join a b E c z r s u f g start l j = rw (append_assoc l a b) at (g start (l ++ a) (f start l j))
+pub on_join : (a b : List Item) (lim : Limits) (r s u : Judged) → JudgesOn a lim r s → JudgesOn b lim s u → JudgesOn (a ++ b) lim r u
+on_join a b lim r s u f g start l j = rw (append_assoc l a b) at (g start (l ++ a) (f start l j))
 
 pub entries_cut : (xs : List ℕ) (m : Module) (page at i k : ℕ)
     → entries_from xs m page at (i + k) ≡ entries_from xs m page at i ++ entries_from xs m page (at + 2 * i) k
@@ -43,7 +44,7 @@ entries_cut xs m page at (suc i) k =
     let z : suc i + k ≡ suc (i + k) = omega arith in
     rw (e, z) (ap (λ (l : List Item). item_of xs m page (le 2 xs at) ∷ l) (entries_cut xs m page (at + 2) i k))
 
-entries_none : (xs : List ℕ) (m : Module) (page at : ℕ) → entries_from xs m page at 0 ≡ []
+pub entries_none : (xs : List ℕ) (m : Module) (page at : ℕ) → entries_from xs m page at 0 ≡ []
 unfolding entries_from
 entries_none xs m page at = refl
 
@@ -55,8 +56,8 @@ apart_one : (before : List Item) (x : Item) → Holds (each (apart x) before) �
 unfolding apart_from
 apart_one before x h = (h, omega arith)
 
-module _ (xs : List ℕ) (m : Module) (q : Page) (paged : Paged xs m q.page q) (E c z : ℕ) (free : Holds (clear_page q E c z)) where
-  clear : (e : ℕ) → q.floor ≤ e % 4096 → Holds (off c z (word (q.at + e % 4096) (width_of e)))
+module _ (xs : List ℕ) (m : Module) (q : Page) (paged : Paged xs m q.page q) (lim : Limits) (free : Holds (clear_page q lim)) where
+  clear : (e : ℕ) → q.floor ≤ e % 4096 → Holds (off lim.c lim.z (word (q.at + e % 4096) (width_of e)))
   clear e up = elim free.1.1 [ inl h ↦ inl (omega (arith, width_most e)) | inr h ↦ inr (omega arith) ]
 
   holding : (a : Bool) (p : Fact) → Holds p → a ≡ (a && test p)
@@ -123,15 +124,15 @@ module _ (xs : List ℕ) (m : Module) (q : Page) (paged : Paged xs m q.page q) (
 
   -- words in the gap judge their entries
   pub gap_on : (at k end : ℕ) (r u : Judged) → Lain xs q r.front.low r.front.high at k end → Later r end u
-      → JudgesOn (entries_from xs m q.page at k) E c z r u
+      → JudgesOn (entries_from xs m q.page at k) lim r u
   gap_on at k end r u n later start l j =
       let items = entries_from xs m q.page at k in
       let all : (p : Item → Fact) → ((i : ℕ) → i < k → Holds (p (item_at (entry xs at i)))) → Holds (each p items) =
       λ p f. each_on p at k (λ i h. ((n.each i h).0.0, f i h)) in
       record {
-        whole = rw later.whole (tells_join (sound c z) l items j.whole (all (sound c z) (λ i h. ((λ e. omega arith), inr (clear (entry xs at i) (n.each i h).0.0.1)))));
-        placed = rw later.placed (tells_join (placed E c z) l items j.placed
-            (all (placed E c z)
+        whole = rw later.whole (tells_join (sound lim.c lim.z) l items j.whole (all (sound lim.c lim.z) (λ i h. ((λ e. omega arith), inr (clear (entry xs at i) (n.each i h).0.0.1)))));
+        placed = rw later.placed (tells_join (placed lim.E lim.c lim.z) l items j.placed
+            (all (placed lim.E lim.c lim.z)
             (λ i h. let up = (n.each i h).0.0.1 in ((λ e. omega arith), inr (omega (arith, free.1.0), clear (entry xs at i) up)))));
         known = rw later.known (tells_join known l items j.known (all known (λ i h e. omega arith)));
         top = each_join (ends_by u.top) l items
@@ -143,34 +144,30 @@ module _ (xs : List ℕ) (m : Module) (q : Page) (paged : Paged xs m q.page q) (
   -- ---- words anywhere in the page
 
   -- one word, wherever it stands in the page
-  strayed : (r u : Judged) (e : ℕ) → q.floor ≤ e % 4096 → Astray q r u → Noted E c z r (word (q.at + e % 4096) (width_of e)) u
+  strayed : (r u : Judged) (e : ℕ) → q.floor ≤ e % 4096 → Astray q r u → Noted lim r (word (q.at + e % 4096) (width_of e)) u
   strayed r u e up n =
       let x = word (q.at + e % 4096) (width_of e) in
       record {
-        whole = n.whole ∙ holding r.whole (sound c z x) ((λ k. omega arith), inr (clear e up));
-        placed = n.placed ∙ holding r.placed (placed E c z x) ((λ k. omega arith), inr (omega (arith, free.1.0), clear e up));
+        whole = n.whole ∙ holding r.whole (sound lim.c lim.z x) ((λ k. omega arith), inr (clear e up));
+        placed = n.placed ∙ holding r.placed (placed lim.E lim.c lim.z x) ((λ k. omega arith), inr (omega (arith, free.1.0), clear e up));
         known = n.known ∙ holding r.known (known x) (λ k. omega arith);
         higher = n.higher;
         own = ends_by_lem x u.top (λ k. omega (arith, n.own, width_most e));
-        front = unknown r.front x u.front n.front;
+        front = fronts_lost r.front (x ∷ []) u.front n.front;
       }
 
   still : (r u : Judged) → Astray q r u → Astray q u u
   still r u n =
       record { whole = refl; placed = refl; known = refl; higher = omega arith; own = n.own; front = n.front }
 
-  -- nothing is known of apartness whatever is passed
-  lost : (start : Front) (l : List Item) (f : Front) → 1099511627776 ≤ f.top → Fronts start l f
-  lost start l f e = record { kept = λ k. absurd (omega arith); apart = λ k. absurd (omega arith) }
-
-  quit : (r u : Judged) → Astray q r u → JudgesOn [] E c z r u
+  quit : (r u : Judged) → Astray q r u → JudgesOn [] lim r u
   quit r u n start l j =
       rw (append-nil l) (record {
         whole = rw n.whole j.whole;
         placed = rw n.placed j.placed;
         known = rw n.known j.known;
         top = each_so (ends_by r.top) (ends_by u.top) l (higher r.top u.top n.higher) j.top;
-        front = lost start l u.front n.front;
+        front = fronts_lost start l u.front n.front;
       })
 
   any_next : (at k : ℕ) → AnyIn xs q at (suc k) → AnyIn xs q (at + 2) k
@@ -183,7 +180,7 @@ module _ (xs : List ℕ) (m : Module) (q : Page) (paged : Paged xs m q.page q) (
       let e : at + 2 * 0 ≡ at = omega arith in
       rw e at (h 0 (omega arith))
 
-  any_on : (at k : ℕ) (r u : Judged) → AnyIn xs q at k → Astray q r u → JudgesOn (entries_from xs m q.page at k) E c z r u
+  any_on : (at k : ℕ) (r u : Judged) → AnyIn xs q at k → Astray q r u → JudgesOn (entries_from xs m q.page at k) lim r u
   unfolding entries_from
   any_on at zero r u h n = quit r u n
   any_on at (suc k) r u h n =
@@ -191,12 +188,12 @@ module _ (xs : List ℕ) (m : Module) (q : Page) (paged : Paged xs m q.page q) (
       let x = word (q.at + e % 4096) (width_of e) in
       let room = any_first at k h in
       let is = item_on xs m q.page q paged e room in
-      let first = on_more [] E c z r r u x (on_none E c z r) (strayed r u e room.1 n) in
-      rw is (on_join (x ∷ []) (entries_from xs m q.page (at + 2) k) E c z r u u first
+      let first = on_more [] lim r r u x (on_none lim r) (strayed r u e room.1 n) in
+      rw is (on_join (x ∷ []) (entries_from xs m q.page (at + 2) k) lim r u u first
       (any_on (at + 2) k u u (any_next at k h) (still r u n)))
 
   -- words in no order judge their entries
-  pub any_by : (at n : ℕ) (r u : Judged) → AnyIn xs q at n → AstrayBy q n r u → JudgesOn (entries_from xs m q.page at n) E c z r u
+  pub any_by : (at n : ℕ) (r u : Judged) → AnyIn xs q at n → AstrayBy q n r u → JudgesOn (entries_from xs m q.page at n) lim r u
   unfolding entries_from
-  any_by at zero r u h b = rw (b.none refl) (on_none E c z r)
+  any_by at zero r u h b = rw (b.none refl) (on_none lim r)
   any_by at (suc n) r u h b = any_on at (suc n) r u h (b.some (λ e. omega arith))

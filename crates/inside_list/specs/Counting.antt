@@ -1,6 +1,6 @@
 -- What the counting walk keeps.
 -- Assumes nothing.
-use Rattle.inside_files.specs.Parts.{no_part}
+use Rattle.inside_files.specs.Parts.{no_part, part_number}
 use Rattle.std.specs.Prelude.{ℕ, suc, ◌+◌, ◌*◌, ◌/◌, ◌≤◌, ◌<◌, cond, List, [], ◌∷◌, ◌++◌, ◌≡◌, eqb, ltb}
 use Rattle.std.proofs.Common.{append_assoc, append-nil, ap, ◌∙◌, length-append}
 use Rattle.std.proofs.Math.Path.{refl, sym}
@@ -11,7 +11,7 @@ use Rattle.facts.specs.FactLaws.{passes, fails}
 use Rattle.facts.specs.RulesLaws.{by_cond, by_test}
 use Rattle.words.specs.Le.{Bytes}
 use Rattle.items.specs.declared.Item.{Item}
-use Rattle.items.specs.Items.{each, inside, words_in, end_kind, word_kind}
+use Rattle.items.specs.Items.{each, inside, words_in, end_kind, word_kind, kind_number}
 use Rattle.items.specs.Listed.{words_join}
 use Rattle.inside_files.specs.declared.Part.{Part}
 use Rattle.inside_files.specs.declared.Place.{Place}
@@ -50,11 +50,11 @@ module _ (xs : List ℕ) (m : Module) where
   words_first c e = rw e (record { valid = start_valid xs m; all = rw (ahead_start xs m) (omega arith) })
 
   module _ (n : ℕ) (c : Cursor) (t : blocks_turn.Turn) (g : CountingWords xs m n c) (step : blocksWalk.Stepped xs m c t) where
-    pub words_end : t.item.kind ≡ end_kind → n ≡ length (words_in (items xs m))
+    pub words_end : kind_number t.item.kind ≡ end_kind → n ≡ length (words_in (items xs m))
     unfolding words_in
     words_end z = let e : n + 0 ≡ length (words_in (items xs m)) = rw (step.ends z) at g.all in omega arith
 
-    pub words_next : (t.item.kind ≡ end_kind → ⊥) → (k : ℕ) → k ≡ n + length (words_in (t.item ∷ [])) → CountingWords xs m k t.next
+    pub words_next : (kind_number t.item.kind ≡ end_kind → ⊥) → (k : ℕ) → k ≡ n + length (words_in (t.item ∷ [])) → CountingWords xs m k t.next
     words_next is k e =
         let x = t.item in
         let l = blocksWalk.ahead xs m t.next in
@@ -121,7 +121,7 @@ words_other : (c : ℕ) (l : List Item) → 3 ≤ c → places_of 2 (word_entrie
 unfolding word_entries
 words_other c [] low = unfold places_of in refl
 words_other c (x ∷ l) low =
-    by_cond (λ (k : List ℕ). places_of 2 k ≡ []) (eqb x.kind word_kind) _ _
+    by_cond (λ (k : List ℕ). places_of 2 k ≡ []) (eqb (kind_number x.kind) word_kind) _ _
     (λ e. places_same (entry (c + x.len / 8) x.at) (word_entries 5 l) 2 (λ z. omega arith) ∙ words_other 5 l (omega arith))
     (λ e. words_other c l low)
 
@@ -196,7 +196,7 @@ module _ (xs : List ℕ) (m : Module) (n : Counts) where
 
 -- what a walk knows of the part that it meets
 pub step_known : (xs : List ℕ) (v : ℕ) (c : Place) (t : Turn) → v ≤ length xs → length xs ≤ 16777216 → filesWalk.Valid v c
-    → filesWalk.Stepped xs v c t → (t.part.kind ≡ no_part → ⊥) → Known xs t.part
+    → filesWalk.Stepped xs v c t → (part_number t.part.kind ≡ no_part → ⊥) → Known xs t.part
 unfolding Each
 step_known xs v c t within small valid step is =
     let met = ahead_met xs 0 (length xs) v c (λ l. omega arith) (omega arith) (omega (arith, valid.within)) within in
@@ -244,13 +244,13 @@ module _ (xs : List ℕ) (v f : ℕ) (w : Walkable xs v f) where
         (record { modules = omega (arith, places_less 2 l); words = omega (arith, from_less l); entries = h })
 
     module _ (t : Turn) (step : filesWalk.Stepped xs v c t) where
-      pub counting_end : t.part.kind ≡ no_part → n ≡ counts_of (inventory xs v f)
+      pub counting_end : part_number t.part.kind ≡ no_part → n ≡ counts_of (inventory xs v f)
       unfolding entries_of
       counting_end z =
           let e : inventory xs v f ≡ g.passed = g.all ∙ rw (step.ends z) (append-nil g.passed) in
           rw e g.counts
 
-      pub counting_next : (t.part.kind ≡ no_part → ⊥) → (u : Counts) → u ≡ plus n (counts_for xs (module_in xs t.part))
+      pub counting_next : (part_number t.part.kind ≡ no_part → ⊥) → (u : Counts) → u ≡ plus n (counts_for xs (module_in xs t.part))
           → Counting xs v f u t.next
       unfolding entries_of
       counting_next is u e =

@@ -15,7 +15,7 @@ use Rattle.facts.specs.FactLaws.{says}
 use Rattle.facts.specs.RulesLaws.{by_cond, by_test}
 use Rattle.words.specs.Le.{le, Bytes}
 use Rattle.items.specs.declared.Item.{Item}
-use Rattle.items.specs.Items.{words_in, word_kind}
+use Rattle.items.specs.Items.{words_in, word_kind, kind_number}
 use Rattle.inside_files.specs.declared.Part.{Part}
 use Rattle.inside_files.specs.declared.Place.{Place}
 use Rattle.inside_files.specs.Parts.{free, file_fits, section_fits, sections_from, sections_at, files_from, parts, first_place}
@@ -79,7 +79,7 @@ words_less : (l : List Item) → length (words_in l) ≤ length l
 unfolding words_in
 words_less [] = omega arith
 words_less (x ∷ l) =
-    by_cond (λ (k : List Item). length k ≤ suc (length l)) (eqb x.kind word_kind) _ _
+    by_cond (λ (k : List Item). length k ≤ suc (length l)) (eqb (kind_number x.kind) word_kind) _ _
     (λ e. omega (arith, words_less l)) (λ e. omega (arith, words_less l))
 
 pub words_few : (xs : List ℕ) (m : Module) → Fits xs m → length (words_in (items xs m)) < 8589934592

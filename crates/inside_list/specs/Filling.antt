@@ -1,6 +1,6 @@
 -- What the listing walk keeps.
 -- Assumes nothing.
-use Rattle.inside_files.specs.Parts.{header_part, no_part}
+use Rattle.inside_files.specs.Parts.{header_part, no_part, part_number}
 use Rattle.std.specs.Prelude.{ℕ, suc, ◌+◌, ◌*◌, ◌/◌, ◌≤◌, List, [], ◌∷◌, ◌++◌, ◌≡◌, refl, eqb}
 use Rattle.std.proofs.Common.{sym, ◌∙◌}
 use Rattle.std.proofs.Math.Path.{ap}
@@ -11,7 +11,7 @@ use Rattle.facts.specs.RulesLaws.{by_cond}
 use Rattle.words.specs.Put.{put, put_all}
 use Rattle.words.specs.PutLaws.{length_put, length_put_all}
 use Rattle.items.specs.declared.Item.{Item}
-use Rattle.items.specs.Items.{each, inside, end_kind, word_kind}
+use Rattle.items.specs.Items.{each, inside, end_kind, word_kind, kind_number}
 use Rattle.inside_files.specs.declared.Part.{Part}
 use Rattle.inside_files.specs.declared.Place.{Place}
 use Rattle.inside_files.specs.declared.Turn.{Turn}
@@ -47,7 +47,7 @@ pub record Filled (l k : List ℕ) (n : Next) (x : Item) (u : Next) : Type 0 whe
   pub room : (rest : List Item) → u.at + length (word_entries u.code rest) ≡ n.at + length (word_entries n.code (x ∷ rest))
   pub kept : (rest : List Item) → put_all 4 k (4 * u.at) (word_entries u.code rest) ≡ put_all 4 l (4 * n.at) (word_entries n.code (x ∷ rest))
 
-pub filled_word : (l : List ℕ) (n : Next) (x : Item) → x.kind ≡ word_kind
+pub filled_word : (l : List ℕ) (n : Next) (x : Item) → kind_number x.kind ≡ word_kind
     → Filled l (put 4 l (4 * n.at) (entry (n.code + x.len / 8) x.at)) n x (record { at = n.at + 1; code = 5 })
 unfolding put_all
 filled_word l n x k =
@@ -59,7 +59,7 @@ filled_word l n x k =
       kept = λ rest. rw (word_more n.code x rest k, e);
     }
 
-pub filled_other : (l : List ℕ) (n : Next) (x : Item) → n.code ≤ 5 → (x.kind ≡ word_kind → ⊥) → Filled l l n x n
+pub filled_other : (l : List ℕ) (n : Next) (x : Item) → n.code ≤ 5 → (kind_number x.kind ≡ word_kind → ⊥) → Filled l l n x n
 filled_other l n x code k =
     record { code = code; long = refl; room = λ rest. rw (word_same n.code x rest k); kept = λ rest. rw (word_same n.code x rest k) }
 
@@ -88,21 +88,21 @@ module _ (xs : List ℕ) (m : Module) (l₀ : List ℕ) (i : ℕ) where
 
   module _ (l : List ℕ) (n : Next) (c : Cursor) (t : blocks_turn.Turn) (g : FillingWords xs m l₀ i l n c) (step : blocksWalk.Stepped xs m c t)
     where
-      pub filling_done : t.item.kind ≡ end_kind
+      pub filling_done : kind_number t.item.kind ≡ end_kind
           → (n.at ≡ i + length (word_entries 3 (items xs m))) × (l ≡ put_all 4 l₀ (4 * i) (word_entries 3 (items xs m)))
       unfolding word_entries put_all
       filling_done z =
           let r : n.at + 0 ≡ i + length (word_entries 3 (items xs m)) = rw (step.ends z) at g.room in
           (omega arith, rw (step.ends z) at g.kept)
 
-      module _ (is : t.item.kind ≡ end_kind → ⊥) where
+      module _ (is : kind_number t.item.kind ≡ end_kind → ⊥) where
         pub word_inside : Holds (inside 16777216 t.item)
         unfolding each
         word_inside =
             let h : Holds (each (inside 16777216) (t.item ∷ blocksWalk.ahead xs m t.next)) = rw (step.goes is) at g.within in h.0
 
         -- a word has its place in the list
-        pub word_room : 4 * (i + length (word_entries 3 (items xs m))) ≤ length l₀ → t.item.kind ≡ word_kind → 4 * (n.at + 1) ≤ length l
+        pub word_room : 4 * (i + length (word_entries 3 (items xs m))) ≤ length l₀ → kind_number t.item.kind ≡ word_kind → 4 * (n.at + 1) ≤ length l
         word_room fits k =
             let e = ap length (word_more n.code t.item (blocksWalk.ahead xs m t.next) k) in
             let r : n.at + length (word_entries n.code (t.item ∷ blocksWalk.ahead xs m t.next)) ≡ i + length (word_entries 3 (items xs m))
@@ -155,7 +155,7 @@ pub record Filling (xs : List ℕ) (v f : ℕ) (l₀ : List ℕ) (k : ℕ) (l : 
 
 pub of_small : (file : ℕ) (p : Part) → file ≤ 33554432 → p.at + p.len ≤ 33554432 → file_of file p ≤ 33554432
 unfolding file_of
-of_small file p a b = by_cond (λ (n : ℕ). n ≤ 33554432) (eqb p.kind header_part) _ _ (λ e. omega arith) (λ e. a)
+of_small file p a b = by_cond (λ (n : ℕ). n ≤ 33554432) (eqb (part_number p.kind) header_part) _ _ (λ e. omega arith) (λ e. a)
 
 module _ (xs : List ℕ) (v f : ℕ) (l₀ : List ℕ) (k : ℕ) where
   pub filling_first : (c : Place) → Walkable xs v f → c ≡ files.first_place xs f → Filling xs v f l₀ k l₀ f k c
@@ -171,11 +171,11 @@ module _ (xs : List ℕ) (v f : ℕ) (l₀ : List ℕ) (k : ℕ) where
       })
 
   module _ (l : List ℕ) (file i : ℕ) (c : Place) (t : Turn) (g : Filling xs v f l₀ k l file i c) (step : filesWalk.Stepped xs v c t) where
-    pub filling_end : t.part.kind ≡ no_part → l ≡ put_all 4 l₀ (4 * k) (inventory xs v f)
+    pub filling_end : part_number t.part.kind ≡ no_part → l ≡ put_all 4 l₀ (4 * k) (inventory xs v f)
     unfolding entries_of put_all
     filling_end z = rw (step.ends z) at g.kept
 
-    module _ (is : t.part.kind ≡ no_part → ⊥) where
+    module _ (is : part_number t.part.kind ≡ no_part → ⊥) where
       abbrev pub here : List ℕ
       here = module_entries xs (file_of file t.part) t.part.at (module_in xs t.part)
 

@@ -1,12 +1,12 @@
 -- Request #107: what the first volume holds, as a list of numbers: each module with its file and its words, in the order of the walk.
 -- Assumes nothing.
-use Rattle.inside_rows.specs.Rows.{pe_kind, te_kind}
+use Rattle.inside_rows.specs.Rows.{pe_kind, te_kind, module_number}
 use Rattle.std.specs.Prelude.{ℕ, ◌+◌, ◌*◌, ◌/◌, ◌%◌, cond, List, [], ◌∷◌, ◌++◌, eqb, ltb, length}
 use Rattle.facts.specs.Fact.{Fact, ◌≡?◌, ◌or◌, test}
 use Rattle.items.specs.declared.Item.{Item}
-use Rattle.items.specs.Items.{word, word_kind}
+use Rattle.items.specs.Items.{word, word_kind, kind_number}
 use Rattle.inside_files.specs.declared.Part.{Part}
-use Rattle.inside_files.specs.Parts.{parts, header_part}
+use Rattle.inside_files.specs.Parts.{parts, header_part, part_number}
 use Rattle.inside_rows.specs.declared.Module.{Module}
 use Rattle.inside_blocks.specs.Blocks.{items}
 use Rattle.inside_walk.specs.Whole.{module_in}
@@ -20,11 +20,11 @@ entry code at = at + 16777216 * code
 -- the words among a module's items, the first of which is its image base: c is 3 up to that, then 5
 unfoldable pub word_entries : ℕ → List Item → List ℕ
 word_entries c [] = []
-word_entries c (x ∷ l) = cond (eqb x.kind word_kind) (entry (c + x.len / 8) x.at ∷ word_entries 5 l) (word_entries c l)
+word_entries c (x ∷ l) = cond (eqb (kind_number x.kind) word_kind) (entry (c + x.len / 8) x.at ∷ word_entries 5 l) (word_entries c l)
 
 -- a PE32 or TE module
 abbrev pub is_module : Module → Fact
-is_module m = m.kind ≡? pe_kind or m.kind ≡? te_kind
+is_module m = module_number m.kind ≡? pe_kind or module_number m.kind ≡? te_kind
 
 -- the module m of the section at `at` of this file, if it is one: the file, the section, the words
 unfoldable pub module_entries : List ℕ → ℕ → ℕ → Module → List ℕ
@@ -32,7 +32,7 @@ module_entries xs file at m = cond (test (is_module m)) (entry 1 file ∷ entry 
 
 -- the file at hand once p is met: p, if it is a file's header
 unfoldable pub file_of : ℕ → Part → ℕ
-file_of file p = cond (eqb p.kind header_part) p.at file
+file_of file p = cond (eqb (part_number p.kind) header_part) p.at file
 
 -- the modules of a list of parts, which go on in this file
 unfoldable pub entries_of : List ℕ → ℕ → List Part → List ℕ

@@ -1,6 +1,6 @@
 -- The words of the list are the words of the walk.
 -- Assumes nothing.
-use Rattle.inside_rows.specs.Rows.{bad_kind, pe_kind, te_kind}
+use Rattle.inside_rows.specs.Rows.{bad_kind, pe_kind, te_kind, module_number}
 use Rattle.std.specs.Prelude.{ℕ, ◌+◌, ◌/◌, ◌≤◌, ◌<◌, Bool, true, false, List, [], ◌∷◌, ◌++◌, ◌⊎◌, ◌≡◌, eqb, length}
 use Rattle.std.proofs.Common.{inl, inr, sym, ap, ◌∙◌, arith, eq-eqb, ne_eqb, eqb-true, lt-ltb, le-ltb}
 use Rattle.std.proofs.Math.Path.{refl}
@@ -10,10 +10,10 @@ use Rattle.facts.specs.Fact.{◌≡?◌, ◌or◌, Holds, Says, test}
 use Rattle.facts.specs.FactLaws.{says, passes, fails}
 use Rattle.facts.specs.RulesLaws.{by_cond}
 use Rattle.items.specs.declared.Item.{Item}
-use Rattle.items.specs.Items.{word, each, inside, words_in, word_kind}
+use Rattle.items.specs.Items.{word, each, inside, words_in, word_kind, kind_number}
 use Rattle.items.specs.Listed.{words_same, words_join}
 use Rattle.inside_files.specs.declared.Part.{Part}
-use Rattle.inside_files.specs.Parts.{parts, first_place, header_part, section_part}
+use Rattle.inside_files.specs.Parts.{parts, first_place, header_part, section_part, part_number}
 use Rattle.inside_files.specs.PartsEach.{Each, Met, ahead_met}
 use Rattle.inside_rows.specs.declared.Module.{Module}
 use Rattle.inside_modules.specs.Bounds.{Empty, Lies}
@@ -24,6 +24,10 @@ use Rattle.inside_walk.specs.Walkable.{Walkable}
 use Rattle.inside_walk.specs.WholeAbove.{module_in_lies, items_inside}
 use Rattle.inside_list.specs.Inventory.{entry, word_entries, is_module, module_entries, file_of, entries_of, inventory}
 use Rattle.inside_list.specs.Inventory.{code_of, place_of, places_of, width_of, words_from}
+use Rattle.inside_walk.specs.Own.{own_word}
+use Rattle.items.specs.declared.Kind.TheVariants.{Word}
+use Rattle.items.specs.Kinds.{kind_number_one}
+use Rattle.items.specs.declared.Kind.{Kind}
 
 -- ---- one entry
 
@@ -63,22 +67,22 @@ places_join code (e ∷ l) k =
 
 -- ---- the words of a module
 
-pub word_more : (c : ℕ) (x : Item) (l : List Item) → x.kind ≡ word_kind
+pub word_more : (c : ℕ) (x : Item) (l : List Item) → kind_number x.kind ≡ word_kind
     → word_entries c (x ∷ l) ≡ entry (c + x.len / 8) x.at ∷ word_entries 5 l
 unfolding word_entries
-word_more c x l k = rw (eq-eqb x.kind word_kind k)
+word_more c x l k = rw (eq-eqb (kind_number x.kind) word_kind k)
 
-pub word_same : (c : ℕ) (x : Item) (l : List Item) → (x.kind ≡ word_kind → ⊥) → word_entries c (x ∷ l) ≡ word_entries c l
+pub word_same : (c : ℕ) (x : Item) (l : List Item) → (kind_number x.kind ≡ word_kind → ⊥) → word_entries c (x ∷ l) ≡ word_entries c l
 unfolding word_entries
-word_same c x l k = rw (ne_eqb x.kind word_kind k)
+word_same c x l k = rw (ne_eqb (kind_number x.kind) word_kind k)
 
 pub word_count : (c : ℕ) (l : List Item) → length (word_entries c l) ≡ length (words_in l)
 unfolding word_entries words_in
 word_count c [] = refl
 word_count c (x ∷ l) =
-    elim (ℕ_discrete x.kind word_kind) [
-      | yes k ↦ rw (eq-eqb x.kind word_kind k, word_count 5 l)
-      | no k ↦ rw (ne_eqb x.kind word_kind k, word_count c l)
+    elim (ℕ_discrete (kind_number x.kind) word_kind) [
+      | yes k ↦ rw (eq-eqb (kind_number x.kind) word_kind k, word_count 5 l)
+      | no k ↦ rw (ne_eqb (kind_number x.kind) word_kind k, word_count c l)
     ]
 
 -- a word's entry says which it is
@@ -98,27 +102,27 @@ word_width c len (inr b) (inl w) =
 word_width c len (inl b) (inr w) = eight_wide (c + len / 8) (inl (omega arith)) ∙ sym w
 word_width c len (inr b) (inr w) = eight_wide (c + len / 8) (inr (omega arith)) ∙ sym w
 
-word_back : (c : ℕ) (x : Item) → (c ≡ 3) ⊎ (c ≡ 5) → x.kind ≡ word_kind → x.at < 16777216 → (x.len ≡ 4) ⊎ (x.len ≡ 8)
+word_back : (c : ℕ) (x : Item) → (c ≡ 3) ⊎ (c ≡ 5) → kind_number x.kind ≡ word_kind → x.at < 16777216 → (x.len ≡ 4) ⊎ (x.len ≡ 8)
     → let e = entry (c + x.len / 8) x.at in word (place_of e) (width_of (code_of e)) ≡ x
 word_back c x first k small wide =
     let e = entry (c + x.len / 8) x.at in
     let p : place_of e ≡ x.at = omega arith in
     let code : code_of e ≡ c + x.len / 8 = omega arith in
-    rw (p, code, word_width c x.len first wide) (ap (λ (k : ℕ). record { kind = k; at = x.at; len = x.len }) (sym k))
+    rw (p, code, word_width c x.len first wide) (ap (λ (k : Kind). record { kind = k; at = x.at; len = x.len }) (sym (kind_number_one x.kind Word k)))
 
 pub words_back : (c : ℕ) (l : List Item) → (c ≡ 3) ⊎ (c ≡ 5) → Holds (each (inside 16777216) l) → words_from (word_entries c l) ≡ words_in l
 unfolding word_entries words_in each
 words_back c [] first h = unfold words_from in refl
-words_back c (x ∷ l) first (inl k, t) = rw (ne_eqb x.kind word_kind k) (words_back c l first t)
+words_back c (x ∷ l) first (inl k, t) = rw (ne_eqb (kind_number x.kind) word_kind k) (words_back c l first t)
 words_back c (x ∷ l) first (inr (ends, wide), t) =
-    elim (ℕ_discrete x.kind word_kind) [
+    elim (ℕ_discrete (kind_number x.kind) word_kind) [
       | yes k ↦
           let small : x.at < 16777216 = elim wide [ inl w ↦ omega arith | inr w ↦ omega arith ] in
           let low : 3 ≤ c = elim first [ inl b ↦ omega arith | inr b ↦ omega arith ] in
-          rw (eq-eqb x.kind word_kind k)
+          rw (eq-eqb (kind_number x.kind) word_kind k)
           (from_more (entry (c + x.len / 8) x.at) (word_entries 5 l) (omega arith)
           ∙ rw (word_back c x first k small wide, words_back 5 l (inr refl) t))
-      | no k ↦ rw (ne_eqb x.kind word_kind k) (words_back c l first t)
+      | no k ↦ rw (ne_eqb (kind_number x.kind) word_kind k) (words_back c l first t)
     ]
 
 -- ---- a module
@@ -136,28 +140,28 @@ module _ (xs : List ℕ) (file at : ℕ) (m : Module) where
 pub base_first : (xs : List ℕ) (m : Module) → Holds (is_module m)
     → word_entries 3 (items xs m) ≡ entry (3 + m.width / 8) m.base ∷ word_entries 5 (blocks_from xs m m.size 0)
 unfolding word_entries items heads_from head_item head_count
-base_first xs m (inl k) = rw (eq-eqb m.kind pe_kind k)
-base_first xs m (inr k) = rw (ne_eqb m.kind pe_kind (λ z. omega arith), eq-eqb m.kind te_kind k)
+base_first xs m (inl k) = rw (eq-eqb (module_number m.kind) pe_kind k)
+base_first xs m (inr k) = rw (ne_eqb (module_number m.kind) pe_kind (λ z. omega arith), eq-eqb (module_number m.kind) te_kind k)
 
 pub empty_no : (m : Module) → Empty m → Holds (is_module m) → ⊥
-empty_no m (inl e) (inl k) = let z = ap (λ (m : Module). m.kind) e in omega arith
-empty_no m (inl e) (inr k) = let z = ap (λ (m : Module). m.kind) e in omega arith
-empty_no m (inr e) (inl k) = let z = ap (λ (m : Module). m.kind) e in omega arith
-empty_no m (inr e) (inr k) = let z = ap (λ (m : Module). m.kind) e in omega arith
+empty_no m (inl e) (inl k) = let z = ap (λ (m : Module). (module_number m.kind)) e in omega arith
+empty_no m (inl e) (inr k) = let z = ap (λ (m : Module). (module_number m.kind)) e in omega arith
+empty_no m (inr e) (inl k) = let z = ap (λ (m : Module). (module_number m.kind)) e in omega arith
+empty_no m (inr e) (inr k) = let z = ap (λ (m : Module). (module_number m.kind)) e in omega arith
 
 -- ---- the parts
 
 -- the item of a part is no word
-own_no_word : (p : Part) (m : Module) → (item_for p m).kind ≡ word_kind → ⊥
+own_no_word : (p : Part) (m : Module) → kind_number (item_for p m).kind ≡ word_kind → ⊥
 unfolding item_for
 own_no_word p m =
-    by_cond (λ (x : Item). x.kind ≡ word_kind → ⊥) (eqb p.kind section_part) _ _
-    (λ e. by_cond (λ (x : Item). x.kind ≡ word_kind → ⊥) (eqb m.kind bad_kind) _ _ (λ f z. omega arith) (λ f z. omega arith))
-    (λ e. eqb-false p.kind section_part e)
+    by_cond (λ (x : Item). (kind_number x.kind) ≡ word_kind → ⊥) (eqb (part_number p.kind) section_part) _ _
+    (λ e. by_cond (λ (x : Item). (kind_number x.kind) ≡ word_kind → ⊥) (eqb (module_number m.kind) bad_kind) _ _ (λ f z. omega arith) (λ f z. omega arith))
+    (λ e. own_word p.kind)
 
 -- what is known of a part: its own place, where it is a header or holds a module, and its module's words
 pub record Known (xs : List ℕ) (p : Part) : Type 0 where
-  pub header : p.kind ≡ header_part → p.at < 16777216
+  pub header : part_number p.kind ≡ header_part → p.at < 16777216
   pub holds : Holds (is_module (module_in xs p)) → p.at < 16777216
   pub others : (Holds (is_module (module_in xs p)) → ⊥) → items xs (module_in xs p) ≡ []
   pub words : Holds (each (inside 16777216) (items xs (module_in xs p)))
@@ -171,21 +175,21 @@ met_known xs n p small met =
       words = items_inside xs 16777216 p (λ k. omega (arith, met.within k));
     }
   where
-    placed : Holds (is_module (module_in xs p)) → Empty (module_in xs p) ⊎ ((p.kind ≡ section_part) × Lies (p.at + 4) (p.at + p.len) (module_in xs p))
+    placed : Holds (is_module (module_in xs p)) → Empty (module_in xs p) ⊎ ((part_number p.kind ≡ section_part) × Lies (p.at + 4) (p.at + p.len) (module_in xs p))
         → p.at < 16777216
     placed is (inl e) = absurd (empty_no (module_in xs p) e is)
     placed is (inr (k, lies)) =
         omega (arith, met.within k, lies.low, lies.high, lies.pe_up, lies.base_up, lies.base_within, lies.rows_within)
 
     none : (Holds (is_module (module_in xs p)) → ⊥)
-        → Empty (module_in xs p) ⊎ ((p.kind ≡ section_part) × Lies (p.at + 4) (p.at + p.len) (module_in xs p)) → items xs (module_in xs p) ≡ []
+        → Empty (module_in xs p) ⊎ ((part_number p.kind ≡ section_part) × Lies (p.at + 4) (p.at + p.len) (module_in xs p)) → items xs (module_in xs p) ≡ []
     none other (inl e) = items_none xs (module_in xs p) e
     none other (inr (k, lies)) = absurd (other lies.kind)
 
 pub file_small : (xs : List ℕ) (file : ℕ) (p : Part) → file < 16777216 → Known xs p → file_of file p < 16777216
 unfolding file_of
 file_small xs file p small known =
-    by_cond (λ (n : ℕ). n < 16777216) (eqb p.kind header_part) _ _ (λ e. known.header (eqb-true p.kind header_part e)) (λ e. small)
+    by_cond (λ (n : ℕ). n < 16777216) (eqb (part_number p.kind) header_part) _ _ (λ e. known.header (eqb-true (part_number p.kind) header_part e)) (λ e. small)
 
 pub module_words : (xs : List ℕ) (file at : ℕ) (m : Module) → file < 16777216 → (Holds (is_module m) → at < 16777216)
     → ((Holds (is_module m) → ⊥) → items xs m ≡ []) → Holds (each (inside 16777216) (items xs m))

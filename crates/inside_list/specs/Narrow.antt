@@ -6,7 +6,7 @@ use Rattle.std.proofs.Common.{inl, inr, arith, eqb-true}
 use Rattle.facts.specs.Fact.{Holds}
 use Rattle.facts.specs.RulesLaws.{by_cond, by_test}
 use Rattle.items.specs.declared.Item.{Item}
-use Rattle.items.specs.Items.{each, inside, word_kind}
+use Rattle.items.specs.Items.{each, inside, word_kind, kind_number}
 use Rattle.inside_files.specs.declared.Part.{Part}
 use Rattle.inside_files.specs.PartsEach.{Each, Met}
 use Rattle.inside_rows.specs.declared.Module.{Module}
@@ -34,10 +34,10 @@ words_narrow : (c : ℕ) (l : List Item) → c ≤ 5 → Holds (each (inside 167
 unfolding word_entries each
 words_narrow c [] low h = tt
 words_narrow c (x ∷ l) low (h, t) =
-    by_cond (λ (k : List ℕ). Narrow k) (eqb x.kind word_kind) _ _
-    (λ e. (one (eqb-true x.kind word_kind e) h, words_narrow 5 l (omega arith) t)) (λ e. words_narrow c l low t)
+    by_cond (λ (k : List ℕ). Narrow k) (eqb (kind_number x.kind) word_kind) _ _
+    (λ e. (one (eqb-true (kind_number x.kind) word_kind e) h, words_narrow 5 l (omega arith) t)) (λ e. words_narrow c l low t)
   where
-    one : x.kind ≡ word_kind → Holds (inside 16777216 x) → entry (c + x.len / 8) x.at < 2 ^ 32
+    one : kind_number x.kind ≡ word_kind → Holds (inside 16777216 x) → entry (c + x.len / 8) x.at < 2 ^ 32
     one k (inl other) = absurd (other k)
     one k (inr (ends, inl w)) = omega arith
     one k (inr (ends, inr w)) = omega arith

@@ -4,7 +4,7 @@
 ghost use Rattle.std.specs.Prelude.{◌≡◌, [], ◌∷◌, ◌+◌, ◌*◌, ◌≤◌, ◌<◌, length};
 ghost use Rattle.facts.specs.Fact.{Holds, Tells};
 ghost use Rattle.words.specs.Put.{put_all};
-ghost use Rattle.items.specs.Items.{each, inside, words_in};
+ghost use Rattle.items.specs.Items.{each, inside, words_in, word_kind, kind_number};
 ghost use Rattle.inside_modules.specs.ModulesFit.{Fits};
 ghost use Rattle.inside_blocks.specs.Blocks.{items};
 ghost use Rattle.inside_walk.specs.Walkable.{Walkable};
@@ -12,9 +12,9 @@ ghost use Rattle.inside_list.specs.Inventory.{entry, is_module, word_entries, mo
 ghost use Rattle.inside_list.specs.Counting.{plus, counts_for, Room};
 ghost use Rattle.inside_list.specs.Filling.{Filled};
 
-use inside_files::Part;
-use inside_rows::Module;
-use items::Item;
+use inside_files::{Part, PartKind};
+use inside_rows::{Module, ModuleKind};
+use items::{Item, Kind};
 
 // How many modules and words there are, and how many entries they have together.
 #[derive(Clone, Copy)]
@@ -34,10 +34,10 @@ pub struct Next {
 fn is_module(m: Module) -> bool
     ensures { Tells result (is_module m) }
 {
-    if m.kind == inside_rows::PE32 {
+    if m.kind == ModuleKind::Pe32 {
         return true;
     }
-    if m.kind == inside_rows::TE {
+    if m.kind == ModuleKind::Te {
         return true;
     }
     false
@@ -48,7 +48,7 @@ fn count_word(n: usize, x: Item) -> usize
     requires { n < 8589934592 }
     ensures { result ≡ n + length (words_in (x ∷ [])) }
 {
-    if x.kind == items::WORD {
+    if x.kind == Kind::Word {
         return n + 1;
     }
     n
@@ -63,7 +63,7 @@ fn count_words(image: &[u8], m: Module) -> usize
     loop {
         let t = inside_blocks::step(image, m, c);
         let x = t.item;
-        if x.kind == items::END {
+        if x.kind == Kind::End {
             return n;
         }
         n = count_word(n, x);
@@ -100,7 +100,7 @@ pub fn count(image: &[u8], v: usize, f: usize) -> Counts
     loop {
         let t = inside_files::step(image, v, c);
         let p = t.part;
-        if p.kind == inside_files::NO_PART {
+        if p.kind == PartKind::End {
             return n;
         }
         let m = inside_walk::module_in(image, p);
@@ -119,10 +119,10 @@ pub fn entry_of(code: usize, at: usize) -> u32
 
 // The item's entry, if it is a word. An entry is four bytes of the list.
 fn fill_word(places: &mut [u8], n: Next, x: Item) -> Next
-    requires { (n.code ≤ 5) × Holds (inside 16777216 x) × (x.kind ≡ 2 → 4 * (n.at + 1) ≤ length places.old) }
+    requires { (n.code ≤ 5) × Holds (inside 16777216 x) × (kind_number x.kind ≡ word_kind → 4 * (n.at + 1) ≤ length places.old) }
     ensures { Filled places.old places.new n x result }
 {
-    if x.kind != items::WORD {
+    if x.kind != Kind::Word {
         return n;
     }
     let i = n.at;
@@ -141,7 +141,7 @@ fn fill_words(image: &[u8], places: &mut [u8], i: usize, m: Module) -> usize
     loop {
         let t = inside_blocks::step(image, m, c);
         let x = t.item;
-        if x.kind == items::END {
+        if x.kind == Kind::End {
             return n.at;
         }
         n = fill_word(places, n, x);
@@ -173,7 +173,7 @@ fn fill_module(
 fn file_of(file: usize, p: Part) -> usize
     ensures { result ≡ file_of file p }
 {
-    if p.kind == inside_files::HEADER {
+    if p.kind == PartKind::Header {
         return p.at;
     }
     file
@@ -190,7 +190,7 @@ pub fn fill(image: &[u8], v: usize, f: usize, places: &mut [u8], k: usize)
     loop {
         let t = inside_files::step(image, v, c);
         let p = t.part;
-        if p.kind == inside_files::NO_PART {
+        if p.kind == PartKind::End {
             return;
         }
         file = file_of(file, p);

@@ -7,7 +7,7 @@ use Rattle.facts.specs.Fact.{◌≡?◌}
 use Rattle.facts.specs.RulesLaws.{by_test, by_cond}
 use Rattle.words.specs.Le.{le}
 use Rattle.inside_rows.specs.declared.Module.{Module}
-use Rattle.inside_rows.specs.Rows.{no_module, bad_module, rows_fit, judged, pe_kind, te_kind}
+use Rattle.inside_rows.specs.Rows.{no_module, bad_module, rows_fit, judged, pe_kind, te_kind, module_number}
 use Rattle.inside_modules.specs.Modules.{kind_fits, pe_module, from_kind}
 use Rattle.inside_modules.specs.Modules.{room_fits, from_optional, pe_fits, from_pe, dos_fits, pe_of, te_fits, te_module, te_of, module_of}
 
@@ -27,7 +27,7 @@ pub record Lies (lo hi : ℕ) (m : Module) : Type 0 where
   pub some_after : m.base + m.width < m.table
   pub rows_within : m.table + 40 * m.rows ≤ m.hi
   pub width : (m.width ≡ 4) ⊎ (m.width ≡ 8)
-  pub kind : (m.kind ≡ pe_kind) ⊎ (m.kind ≡ te_kind)
+  pub kind : (module_number m.kind ≡ pe_kind) ⊎ (module_number m.kind ≡ te_kind)
 
 bad_empty : Empty bad_module
 bad_empty = inr refl

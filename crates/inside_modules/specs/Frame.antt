@@ -11,21 +11,21 @@ use Rattle.facts.specs.RulesLaws.{by_test}
 use Rattle.words.specs.Le.{le, Alike}
 use Rattle.words.specs.LeLaws.{le_in, alike_in}
 use Rattle.inside_rows.specs.declared.Module.{Module}
-use Rattle.inside_rows.specs.Rows.{no_module, bad_module, rows_fit, judged, bad_kind, pe_kind}
+use Rattle.inside_rows.specs.Rows.{no_module, bad_module, rows_fit, judged, bad_kind, pe_kind, module_number}
 use Rattle.inside_rows.specs.RowsLaws.{rows_fit_cong}
 use Rattle.inside_modules.specs.Modules.{counted, kind_fits, pe_module, from_kind}
 use Rattle.inside_modules.specs.Modules.{room_fits, from_optional, pe_fits, from_pe, dos_fits, pe_of, te_fits, te_module, te_of, module_of}
 
 -- a and b agree on the headers of m: a PE32 module's first, what stands before the image base, and what stands after it
 pub record Seen (a b : List ℕ) (m : Module) : Type 0 where
-  pub dos : m.kind ≡ pe_kind → Alike a b m.lo 64
+  pub dos : module_number m.kind ≡ pe_kind → Alike a b m.lo 64
   pub before : Alike a b m.pe (m.base - m.pe)
   pub after : Alike a b (m.base + m.width) (m.table + 40 * m.rows - (m.base + m.width))
 
 module _ (a b : List ℕ) (lo hi : ℕ) where
   -- a module that isn't broken is r, where b has its headers too
   abbrev Is : Module → Module → Type 0
-  Is r m = (m.kind ≡ bad_kind → ⊥) → Seen a b m → m ≡ r
+  Is r m = (module_number m.kind ≡ bad_kind → ⊥) → Seen a b m → m ≡ r
 
   bad : (r : Module) → Is r bad_module
   bad r ok seen = absurd (ok refl)
@@ -47,8 +47,8 @@ module _ (a b : List ℕ) (lo hi : ℕ) where
     kind_of xs = from_kind xs lo hi opt soh rows fixed at w
 
     -- what isn't broken is the module itself
-    kind_shape : ((kind_of a).kind ≡ bad_kind → ⊥)
-        → ((kind_of a).kind ≡ pe_kind) × ((kind_of a).lo ≡ lo) × ((kind_of a).pe ≡ opt - 24) × ((kind_of a).base ≡ opt + at)
+    kind_shape : (module_number (kind_of a).kind ≡ bad_kind → ⊥)
+        → (module_number (kind_of a).kind ≡ pe_kind) × ((kind_of a).lo ≡ lo) × ((kind_of a).pe ≡ opt - 24) × ((kind_of a).base ≡ opt + at)
     unfolding from_kind judged
     kind_shape =
         by_test Shape (kind_fits a opt soh fixed) _ _
@@ -56,7 +56,7 @@ module _ (a b : List ℕ) (lo hi : ℕ) where
         (λ h ok. absurd (ok refl))
       where
         Shape : Module → Type 0
-        Shape m = (m.kind ≡ bad_kind → ⊥) → (m.kind ≡ pe_kind) × (m.lo ≡ lo) × (m.pe ≡ opt - 24) × (m.base ≡ opt + at)
+        Shape m = (module_number m.kind ≡ bad_kind → ⊥) → (module_number m.kind ≡ pe_kind) × (m.lo ≡ lo) × (m.pe ≡ opt - 24) × (m.base ≡ opt + at)
 
     kind_cong : at + w + 4 ≤ fixed → Is (kind_of b) (kind_of a)
     unfolding from_kind judged
@@ -81,7 +81,7 @@ module _ (a b : List ℕ) (lo hi : ℕ) where
             rw (passes (kind_fits b opt soh fixed) fits', passes (rows_fit b (made b)) held', dir, size, count)
 
   optional_shape : (opt soh rows : ℕ) → let m = from_optional a lo hi opt soh rows in
-      (m.kind ≡ bad_kind → ⊥) → (m.kind ≡ pe_kind) × (m.lo ≡ lo) × (m.pe ≡ opt - 24) × (opt + 24 ≤ m.base)
+      (module_number m.kind ≡ bad_kind → ⊥) → (module_number m.kind ≡ pe_kind) × (m.lo ≡ lo) × (m.pe ≡ opt - 24) × (opt + 24 ≤ m.base)
   unfolding from_optional
   optional_shape opt soh rows =
       by_test Shape (room_fits hi opt soh rows) _ _
@@ -90,7 +90,7 @@ module _ (a b : List ℕ) (lo hi : ℕ) where
       (λ h ok. absurd (ok refl))
     where
       Shape : Module → Type 0
-      Shape m = (m.kind ≡ bad_kind → ⊥) → (m.kind ≡ pe_kind) × (m.lo ≡ lo) × (m.pe ≡ opt - 24) × (opt + 24 ≤ m.base)
+      Shape m = (module_number m.kind ≡ bad_kind → ⊥) → (module_number m.kind ≡ pe_kind) × (m.lo ≡ lo) × (m.pe ≡ opt - 24) × (opt + 24 ≤ m.base)
 
       kind : (fixed at w : ℕ) → 24 ≤ at → Shape (from_kind a lo hi opt soh rows fixed at w)
       kind fixed at w h ok = let (k, l, p, e) = kind_shape opt soh rows fixed at w ok in (k, l, p, omega arith)
@@ -114,16 +114,16 @@ module _ (a b : List ℕ) (lo hi : ℕ) where
       (λ f. bad (from_optional b lo hi opt soh rows))))
       (λ h. bad (from_optional b lo hi opt soh rows))
     where
-      looks : (fixed at w : ℕ) → 24 ≤ at → ((from_kind a lo hi opt soh rows fixed at w).kind ≡ bad_kind → ⊥)
+      looks : (fixed at w : ℕ) → 24 ≤ at → (module_number (from_kind a lo hi opt soh rows fixed at w).kind ≡ bad_kind → ⊥)
           → Seen a b (from_kind a lo hi opt soh rows fixed at w) → le 2 a opt ≡ le 2 b opt
       looks fixed at w h ok seen =
           let (k, l, p, e) = kind_shape opt soh rows fixed at w ok in
           le_in seen.before 2 opt (omega arith) (omega arith)
 
-  pe_shape : (pe : ℕ) → let m = from_pe a lo hi pe in (m.kind ≡ bad_kind → ⊥) → (m.kind ≡ pe_kind) × (m.lo ≡ lo)
+  pe_shape : (pe : ℕ) → let m = from_pe a lo hi pe in (module_number m.kind ≡ bad_kind → ⊥) → (module_number m.kind ≡ pe_kind) × (m.lo ≡ lo)
   unfolding from_pe
   pe_shape pe =
-      by_test (λ (m : Module). (m.kind ≡ bad_kind → ⊥) → (m.kind ≡ pe_kind) × (m.lo ≡ lo)) (pe_fits a hi pe) _ _
+      by_test (λ (m : Module). (module_number m.kind ≡ bad_kind → ⊥) → (module_number m.kind ≡ pe_kind) × (m.lo ≡ lo)) (pe_fits a hi pe) _ _
       (λ h ok. let (k, l, p, e) = optional_shape (pe + 24) (le 2 a (pe + 20)) (le 2 a (pe + 6)) ok in (k, l)) (λ h ok. absurd (ok refl))
 
   pe_cong : (pe : ℕ) → Is (from_pe b lo hi pe) (from_pe a lo hi pe)
@@ -181,12 +181,12 @@ module _ (a b : List ℕ) (lo hi : ℕ) where
 
 -- images that agree on the headers of a module that isn't broken have the same one there
 pub module_cong : (a b : List ℕ) (t lo hi : ℕ) → let m = module_of a t lo hi in
-    (m.kind ≡ bad_kind → ⊥) → Seen a b m → m ≡ module_of b t lo hi
+    (module_number m.kind ≡ bad_kind → ⊥) → Seen a b m → m ≡ module_of b t lo hi
 unfolding module_of
 module_cong a b t lo hi = go (eqb t 0x10) (eqb t 0x12)
   where
     go : (s r : Bool) → let m = cond s (pe_of a lo hi) (cond r (te_of a lo hi) no_module) in
-        (m.kind ≡ bad_kind → ⊥) → Seen a b m → m ≡ cond s (pe_of b lo hi) (cond r (te_of b lo hi) no_module)
+        (module_number m.kind ≡ bad_kind → ⊥) → Seen a b m → m ≡ cond s (pe_of b lo hi) (cond r (te_of b lo hi) no_module)
     go true r = dos_cong a b lo hi
     go false true = te_cong a b lo hi
     go false false = λ ok seen. refl

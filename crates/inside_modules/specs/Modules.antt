@@ -4,6 +4,7 @@ use Rattle.std.specs.Prelude.{ℕ, ◌+◌, ◌-◌, ◌*◌, cond, List, ltb, e
 use Rattle.facts.specs.Fact.{Fact, ◌≤?◌, ◌≡?◌, ◌and◌, test}
 use Rattle.words.specs.Le.{le}
 use Rattle.inside_rows.specs.declared.Module.{Module}
+use Rattle.inside_rows.specs.declared.ModuleKind.TheVariants.{Pe32, Te}
 use Rattle.inside_rows.specs.Rows.{no_module, bad_module, judged, pe_kind, te_kind}
 
 -- ---- PE32
@@ -21,7 +22,7 @@ abbrev pub pe_module : List ℕ → ℕ → ℕ → ℕ → ℕ → ℕ → ℕ 
 pe_module xs lo hi opt soh rows fixed b w =
     let count = le 4 xs (opt + (fixed - 4)) in
     record {
-      kind = pe_kind;
+      kind = Pe32;
       lo = lo;
       hi = hi;
       pe = opt - 24;
@@ -74,7 +75,7 @@ te_fits xs lo hi = lo + 40 ≤? hi and le 2 xs lo ≡? 0x5A56 and lo + 40 + 40 *
 abbrev pub te_module : List ℕ → ℕ → ℕ → Module
 te_module xs lo hi =
     record {
-      kind = te_kind;
+      kind = Te;
       lo = lo;
       hi = hi;
       pe = lo;

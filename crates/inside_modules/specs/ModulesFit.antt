@@ -1,6 +1,6 @@
 -- What a module that is none of the refused has: its headers lie in it, in order.
 -- Assumes nothing.
-use Rattle.inside_rows.specs.Rows.{pe_kind, te_kind}
+use Rattle.inside_rows.specs.Rows.{pe_kind, te_kind, module_number}
 use Rattle.std.specs.Prelude.{ℕ, ◌+◌, ◌*◌, ◌≤◌, ◌<◌, List, ◌⊎◌, ◌≡◌, length}
 use Rattle.inside_rows.specs.declared.Module.{Module}
 
@@ -12,8 +12,8 @@ pub record Fits (xs : List ℕ) (m : Module) : Type 0 where
   pub base_up : m.pe ≤ m.base
   pub base_within : m.base + m.width ≤ m.table
   pub rows_within : m.table + 40 * m.rows ≤ m.hi
-  pub dos : m.kind ≡ pe_kind → m.lo + 64 ≤ m.hi
+  pub dos : module_number m.kind ≡ pe_kind → m.lo + 64 ≤ m.hi
   pub stripped_small : m.stripped < 65536
   pub dir_small : m.dir < 4294967296
   pub size_small : m.size < 4294967296
-  pub headed : (m.rows ≡ 0) ⊎ ((m.kind ≡ pe_kind) ⊎ (m.kind ≡ te_kind))
+  pub headed : (m.rows ≡ 0) ⊎ ((module_number m.kind ≡ pe_kind) ⊎ (module_number m.kind ≡ te_kind))

@@ -6,7 +6,7 @@ ghost use Rattle.facts.specs.Fact.{Tells};
 ghost use Rattle.inside_modules.specs.Modules.{counted, kind_fits, from_kind};
 ghost use Rattle.inside_modules.specs.Modules.{room_fits, from_optional, pe_fits, from_pe, dos_fits, pe_of, te_fits, te_of, module_of};
 
-use inside_rows::Module;
+use inside_rows::{Module, ModuleKind};
 
 fn counted_at(image: &[u8], count: usize, at: usize) -> usize
     requires { 5 < count → at + 4 ≤ length image.now }
@@ -52,7 +52,7 @@ fn from_kind(
     let dir = counted_at(image, count, opt + fixed + 40);
     let size = counted_at(image, count, opt + fixed + 44);
     let m = Module {
-        kind: inside_rows::PE32,
+        kind: ModuleKind::Pe32,
         lo,
         hi,
         pe: opt - 24,
@@ -144,7 +144,7 @@ fn te_of(image: &[u8], lo: usize, hi: usize) -> Module
     let dir = words::le32(image, lo + 24);
     let size = words::le32(image, lo + 28);
     let m = Module {
-        kind: inside_rows::TE,
+        kind: ModuleKind::Te,
         lo,
         hi,
         pe: lo,

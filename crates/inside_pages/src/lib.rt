@@ -1,15 +1,16 @@
 // Request #107: where a page of a module lies, found once for all entries of a relocation block.
 #![tactic(auto)]
 
-ghost use Rattle.std.specs.Prelude.{◌≡◌, ◌+◌, ◌*◌, ◌≤◌, ◌<◌, length};
+ghost use Rattle.std.specs.Prelude.{◌≡◌, ◌+◌, ◌*◌, ◌≤◌, ◌<◌, length, MatchOption};
 ghost use Rattle.facts.specs.Fact.{Tells};
 ghost use Rattle.inside_modules.specs.ModulesFit.{Fits};
 ghost use Rattle.inside_pages.specs.Pages.{reaches, FirstRow, Paged};
+ghost use Rattle.inside_rows.specs.Rows.{te_kind, module_number};
 
-use inside_rows::{Module, Row};
+use inside_rows::{Module, ModuleKind, Row};
 
 // A block's page, and where it would lie in the image: what starts at `floor` or after and ends in `room` is found by adding its offset. No room
-// where that isn't sure.
+// where that isn't sure: no Option, since a loop over entries would then test twice what one test of the room tells.
 #[derive(Clone, Copy)]
 pub struct Page {
     pub page: usize,
@@ -53,30 +54,27 @@ fn row_reaches(w: Row, page: usize) -> bool
     true
 }
 
-// The first section header that can hold a byte of the page, or their count.
-fn first_row(image: &[u8], m: Module, page: usize) -> usize
+// The first section header that can hold a byte of the page.
+fn first_row(image: &[u8], m: Module, page: usize) -> Option<usize>
     requires { Fits image.now m × (page < 4294967296) }
-    ensures { FirstRow image.now m page result }
+    ensures { MatchOption result (FirstRow image.now m page m.rows) (λ i. (i < m.rows) × FirstRow image.now m page i) }
 {
-    let mut i = 0;
-    while i < m.rows {
+    for i in 0..m.rows {
         if row_reaches(inside_rows::row_at(image, m.table, i), page) {
-            return i;
+            return Some(i);
         }
-        i += 1;
     }
-    i
+    None
 }
 
 // By the section headers: sure where the first data that the page meets lies in the module.
 fn page_in(image: &[u8], m: Module, page: usize) -> Page
-    requires { Fits image.now m × (page < 4294967296) × (m.kind ≡ 0x12 → ⊥) }
+    requires { Fits image.now m × (page < 4294967296) × (module_number m.kind ≡ te_kind → ⊥) }
     ensures { Paged image.now m page result }
 {
-    let i = first_row(image, m, page);
-    if m.rows <= i {
+    let Some(i) = first_row(image, m, page) else {
         return unsure(page);
-    }
+    };
     let w = inside_rows::row_at(image, m.table, i);
     if m.lo + w.ptr + page < w.va {
         return unsure(page);
@@ -94,7 +92,7 @@ fn page_in(image: &[u8], m: Module, page: usize) -> Page
 
 // By the shift of a TE module.
 fn page_shifted(image: &[u8], m: Module, page: usize) -> Page
-    requires { Fits image.now m × (page < 4294967296) × (m.kind ≡ 0x12) }
+    requires { Fits image.now m × (page < 4294967296) × (module_number m.kind ≡ te_kind) }
     ensures { Paged image.now m page result }
 {
     if m.lo + page + 40 < m.stripped {
@@ -117,7 +115,7 @@ pub fn page_of(image: &[u8], m: Module, page: usize) -> Page
     requires { Fits image.now m × (page < 4294967296) }
     ensures { Paged image.now m page result }
 {
-    if m.kind == inside_rows::TE {
+    if m.kind == ModuleKind::Te {
         return page_shifted(image, m, page);
     }
     page_in(image, m, page)

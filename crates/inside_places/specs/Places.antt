@@ -1,11 +1,11 @@
 -- Request #107: where the k bytes at a relative address lie in a module.
 -- Assumes nothing.
-use Rattle.std.specs.Prelude.{ℕ, ◌+◌, ◌-◌, ◌*◌, cond, List, ltb, eqb}
+use Rattle.std.specs.Prelude.{ℕ, ◌+◌, ◌-◌, cond, List, ltb, eqb}
 use Rattle.facts.specs.Fact.{Fact, ◌≤?◌, deny, ◌and◌, test}
 use Rattle.facts.specs.First.{first_fault}
 use Rattle.inside_rows.specs.declared.Module.{Module}
 use Rattle.inside_rows.specs.declared.Row.{Row}
-use Rattle.inside_rows.specs.Rows.{row_at, te_kind}
+use Rattle.inside_rows.specs.Rows.{row_at, te_kind, module_number}
 use Rattle.inside_places.specs.declared.Span.{Span}
 
 -- nowhere: both are the module's end, where no byte of it lies
@@ -42,4 +42,4 @@ shifted m rva k = cond (test (te_holds m rva k)) (record { at = m.lo + (rva + 40
 -- ---- either
 
 unfoldable pub found : List ℕ → Module → ℕ → ℕ → Span
-found xs m rva k = cond (eqb m.kind te_kind) (shifted m rva k) (found_in xs m rva k)
+found xs m rva k = cond (eqb (module_number m.kind) te_kind) (shifted m rva k) (found_in xs m rva k)

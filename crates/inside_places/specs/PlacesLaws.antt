@@ -1,6 +1,6 @@
 -- What a search for a relative address looks at, and what it shows.
 -- Assumes nothing.
-use Rattle.std.specs.Prelude.{ℕ, ◌+◌, ◌*◌, ◌≤◌, ◌<◌, Bool, true, false, List, ◌≡◌, ltb, eqb}
+use Rattle.std.specs.Prelude.{ℕ, ◌*◌, ◌≤◌, ◌<◌, Bool, true, false, List, ◌≡◌, ltb, eqb}
 use Rattle.std.proofs.Common.{arith}
 use Rattle.std.proofs.Math.Decide.{dec_lt}
 use borrow.Author.Tests.{le-ltb}
@@ -10,7 +10,7 @@ use Rattle.facts.specs.FirstLaws.{first, first_cong}
 use Rattle.facts.specs.RulesLaws.{by_cond, by_test}
 use Rattle.words.specs.Le.{Alike}
 use Rattle.inside_rows.specs.declared.Module.{Module}
-use Rattle.inside_rows.specs.Rows.{row_at, te_kind}
+use Rattle.inside_rows.specs.Rows.{row_at, te_kind, module_number}
 use Rattle.inside_rows.specs.RowsLaws.{row_cong}
 use Rattle.inside_places.specs.declared.Span.{Span}
 use Rattle.inside_places.specs.Places.{covers, row_of, found_in, te_holds, shifted, found}
@@ -53,6 +53,6 @@ module _ (a b : List ℕ) (m : Module) (rows : Alike a b m.table (40 * m.rows)) 
 pub found_up : (xs : List ℕ) (m : Module) (rva k : ℕ) → m.lo ≤ m.hi → m.lo ≤ (found xs m rva k).at
 unfolding found shifted found_in
 found_up xs m rva k h =
-    by_cond (λ (s : Span). m.lo ≤ s.at) (eqb m.kind te_kind) _ _
+    by_cond (λ (s : Span). m.lo ≤ s.at) (eqb (module_number m.kind) te_kind) _ _
     (λ e. by_test (λ (s : Span). m.lo ≤ s.at) (te_holds m rva k) _ _ (λ f. omega arith) (λ f. h))
     (λ e. by_cond (λ (s : Span). m.lo ≤ s.at) (ltb (row_of xs m rva k) m.rows) _ _ (λ f. omega arith) (λ f. h))

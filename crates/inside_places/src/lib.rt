@@ -4,11 +4,12 @@
 ghost use Rattle.std.specs.Prelude.{◌≡◌, ◌+◌, ◌*◌, ◌≤◌, ◌<◌, length};
 ghost use Rattle.facts.specs.Fact.{Tells};
 ghost use Rattle.inside_modules.specs.ModulesFit.{Fits};
-ghost use Rattle.inside_places.specs.Places.{covers, row_of, found_in, te_holds, shifted, found};
+ghost use Rattle.inside_places.specs.Places.{covers, found_in, te_holds, shifted, found};
 
-use inside_rows::{Module, Row};
+use inside_rows::{Module, ModuleKind, Row};
 
-// The place of an address, and where the data ends in which it lies. Both are the module's end where it lies in none.
+// The place of an address, and where the data ends in which it lies. Both are the module's end where it lies in none: no Option,
+// since whoever asks refuses what ends past the module by the same test.
 #[derive(Clone, Copy)]
 pub struct Span {
     pub at: usize,
@@ -28,32 +29,19 @@ fn row_holds(w: Row, rva: usize, k: usize) -> bool
     true
 }
 
-fn row_of(image: &[u8], m: Module, rva: usize, k: usize) -> usize
-    requires { Fits image.now m × (rva < 17179869184) × (k ≤ 8) }
-    ensures { result ≡ row_of image.now m rva k }
-{
-    let mut i = 0;
-    while i < m.rows {
-        if row_holds(inside_rows::row_at(image, m.table, i), rva, k) {
-            return i;
-        }
-        i += 1;
-    }
-    i
-}
-
-// By the section headers.
+// By the section headers: in the first whose data holds them.
 fn find_in(image: &[u8], m: Module, rva: usize, k: usize) -> Span
     requires { Fits image.now m × (rva < 17179869184) × (k ≤ 8) }
     ensures { (result ≡ found_in image.now m rva k) × (result.at < 68719476736) × (result.end < 68719476736) }
 {
-    let i = row_of(image, m, rva, k);
-    if i < m.rows {
+    for i in 0..m.rows {
         let w = inside_rows::row_at(image, m.table, i);
-        return Span {
-            at: m.lo + w.ptr + (rva - w.va),
-            end: m.lo + w.ptr + w.raw,
-        };
+        if row_holds(w, rva, k) {
+            return Span {
+                at: m.lo + w.ptr + (rva - w.va),
+                end: m.lo + w.ptr + w.raw,
+            };
+        }
     }
     Span {
         at: m.hi,
@@ -96,7 +84,7 @@ pub fn find(image: &[u8], m: Module, rva: usize, k: usize) -> Span
     requires { Fits image.now m × (rva < 17179869184) × (k ≤ 8) }
     ensures { (result ≡ found image.now m rva k) × (result.at < 68719476736) × (result.end < 68719476736) }
 {
-    if m.kind == inside_rows::TE {
+    if m.kind == ModuleKind::Te {
         return shift(m, rva, k);
     }
     find_in(image, m, rva, k)

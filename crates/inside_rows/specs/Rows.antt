@@ -4,37 +4,48 @@ use Rattle.std.specs.Prelude.{ℕ, ◌+◌, ◌-◌, ◌*◌, cond, List}
 use Rattle.facts.specs.Fact.{Fact, ◌≤?◌, ◌≡?◌, ◌and◌, ◌or◌, every, test}
 use Rattle.words.specs.Le.{le}
 use Rattle.inside_rows.specs.declared.Module.{Module}
+use Rattle.inside_rows.specs.declared.ModuleKind.{ModuleKind}
+use Rattle.inside_rows.specs.declared.ModuleKind.TheVariants.{Absent, Pe32, Te, Bad}
 use Rattle.inside_rows.specs.declared.Row.{Row}
 
--- ---- the kinds of modules, by their numbers: those of their sections
+-- ---- the kinds of modules, by their numbers, which checks compare
+
+abbrev pub module_number : ModuleKind → ℕ
+module_number Absent = 0
+module_number Pe32 = 1
+module_number Te = 2
+module_number Bad = 3
 
 -- none
 abbrev pub no_kind : ℕ
-no_kind = 0
+no_kind = module_number Absent
 
 -- PE32
 abbrev pub pe_kind : ℕ
-pe_kind = 0x10
+pe_kind = module_number Pe32
 
 -- TE
 abbrev pub te_kind : ℕ
-te_kind = 0x12
+te_kind = module_number Te
 
 -- one whose headers don't fit
 abbrev pub bad_kind : ℕ
-bad_kind = 25
+bad_kind = module_number Bad
 
 -- ---- modules
 
+-- one that has nothing but its kind
+abbrev pub bare_module : ModuleKind → Module
+bare_module kind =
+    record { kind = kind; lo = 0; hi = 0; pe = 0; base = 0; width = 0; table = 0; rows = 0; stripped = 0; dir = 0; size = 0 }
+
 -- what is no module
 abbrev pub no_module : Module
-no_module =
-    record { kind = no_kind; lo = 0; hi = 0; pe = 0; base = 0; width = 0; table = 0; rows = 0; stripped = 0; dir = 0; size = 0 }
+no_module = bare_module Absent
 
 -- what should be one and isn't
 abbrev pub bad_module : Module
-bad_module =
-    record { kind = bad_kind; lo = 0; hi = 0; pe = 0; base = 0; width = 0; table = 0; rows = 0; stripped = 0; dir = 0; size = 0 }
+bad_module = bare_module Bad
 
 -- section header i of those at t: address, size of its data, place of its data
 unfoldable pub row_at : List ℕ → ℕ → ℕ → Row

@@ -3,22 +3,24 @@
 
 ghost use Rattle.std.specs.Prelude.{◌≡◌, ◌+◌, ◌*◌, ◌≤◌, ◌<◌, length};
 ghost use Rattle.facts.specs.Fact.{Tells};
-ghost use Rattle.inside_rows.specs.Rows.{no_module, bad_module, row_at, data_fits, rows_fit, judged};
+ghost use Rattle.inside_rows.specs.Rows.{bare_module, no_module, bad_module, row_at, data_fits, rows_fit, judged};
 
-pub const NO_MODULE: u32 = 0;
+#[derive(Clone, Copy, PartialEq, Eq)]
+pub enum ModuleKind {
+    // No module.
+    Absent,
+    Pe32,
+    Te,
+    // One whose headers don't fit.
+    Bad,
+}
 
-pub const PE32: u32 = 0x10;
-
-pub const TE: u32 = 0x12;
-
-pub const BAD: u32 = 25;
-
-// What the walk needs of a module: kind 0x10 (PE32), 0x12 (TE), 0 (none) or 25 (headers that don't fit, all else 0); its bytes lo..hi-1;
+// What the walk needs of a module: its kind (all else is 0 where it is none or bad); its bytes lo..hi-1;
 // where its second header and its image base stand, and the base's width; place and count of its section headers; the bytes that were
 // stripped (40 for PE32); the relocation directory's address and size.
 #[derive(Clone, Copy)]
 pub struct Module {
-    pub kind: u32,
+    pub kind: ModuleKind,
     pub lo: usize,
     pub hi: usize,
     pub pe: usize,
@@ -39,12 +41,12 @@ pub struct Row {
     pub ptr: usize,
 }
 
-// No module.
-pub fn none() -> Module
-    ensures { result ≡ no_module }
+// One that has nothing but its kind.
+fn bare(kind: ModuleKind) -> Module
+    ensures { result ≡ bare_module kind }
 {
     Module {
-        kind: NO_MODULE,
+        kind,
         lo: 0,
         hi: 0,
         pe: 0,
@@ -58,23 +60,18 @@ pub fn none() -> Module
     }
 }
 
+// No module.
+pub fn none() -> Module
+    ensures { result ≡ no_module }
+{
+    bare(ModuleKind::Absent)
+}
+
 // A module whose headers don't fit.
 pub fn refused() -> Module
     ensures { result ≡ bad_module }
 {
-    Module {
-        kind: BAD,
-        lo: 0,
-        hi: 0,
-        pe: 0,
-        base: 0,
-        width: 0,
-        table: 0,
-        rows: 0,
-        stripped: 0,
-        dir: 0,
-        size: 0,
-    }
+    bare(ModuleKind::Bad)
 }
 
 // Section header i of those at t.
@@ -110,13 +107,11 @@ fn rows_fit(image: &[u8], m: Module) -> bool
     requires { (m.lo ≤ 16777216) × (m.table + 40 * m.rows ≤ length image.now) }
     ensures { Tells result (rows_fit image.now m) }
 {
-    let mut i = 0;
-    while i < m.rows {
+    for i in 0..m.rows {
         let w = row_at(image, m.table, i);
         if !data_fits(m.lo, m.hi, m.stripped, w) {
             return false;
         }
-        i += 1;
     }
     true
 }

@@ -2,7 +2,7 @@
 -- Assumes nothing.
 use Rattle.std.specs.Prelude.{ℕ, ◌+◌, ◌*◌, ◌≤◌, ◌<◌, List, ◌≡◌, length}
 use Rattle.facts.specs.Fact.{Holds}
-use Rattle.facts.specs.Rules.{Rules, answer, rule, run}
+use Rattle.facts.specs.Rules.{answer, rule, run}
 use Rattle.table.specs.Passes.{place, clear}
 use Rattle.inside_judge.specs.Rules.{modules_fit, words_fit, types_fit}
 

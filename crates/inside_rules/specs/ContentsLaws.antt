@@ -1,6 +1,6 @@
 -- What the rules before give the pass over the words.
 -- Assumes nothing.
-use Rattle.std.specs.Prelude.{ℕ, zero, suc, ◌+◌, ◌*◌, ◌≤◌, ◌<◌, List, ◌⊎◌, ◌≡◌, length}
+use Rattle.std.specs.Prelude.{ℕ, zero, suc, ◌+◌, ◌*◌, ◌≤◌, ◌<◌, List, ◌≡◌, min, max, length}
 use Rattle.std.proofs.Common.{inl, inr, arith}
 use Rattle.facts.specs.Fact.{Fact, ◌and◌, Holds}
 use Rattle.facts.specs.FactLaws.{passes, fails}
@@ -21,12 +21,6 @@ use Rattle.inside_judge.specs.Judges.{ends_by}
 use Rattle.apart_windows.specs.Clear.{between}
 use Rattle.apart_windows.specs.Windows.{Ready}
 use Rattle.inside_rules.specs.Contents.{contents_number, Entries}
-
--- r is the lower of two
-pub record Lower (x y r : ℕ) : Type 0 where
-  pub one : (r ≡ x) ⊎ (r ≡ y)
-  pub by_x : r ≤ x
-  pub by_y : r ≤ y
 
 -- n patch words lie in low..top
 pub record Within (xs : List ℕ) (t n low top : ℕ) : Type 0 where
@@ -56,20 +50,19 @@ bounds xs t n r a =
     }
 
 -- a word ends by the image's end too
-lowest : (xs : List ℕ) (v f top low : ℕ) → Walkable xs v f → Lower top (length xs) low → Holds (each (ends_by top) (walked xs v f))
+lowest : (xs : List ℕ) (v f top low : ℕ) → Walkable xs v f → low ≡ min top (length xs) → Holds (each (ends_by top) (walked xs v f))
     → Holds (each (ends_by low) (walked xs v f))
 lowest xs v f top low walk is ends =
-    each_so (λ x. ends_by top x and inside (length xs) x) (ends_by low) (walked xs v f) (λ x h. go x h.0 h.1 is.one)
+    each_so (λ x. ends_by top x and inside (length xs) x) (ends_by low) (walked xs v f) (λ x h. go x h.0 h.1)
     (each_both (ends_by top) (inside (length xs)) (walked xs v f) ends (walked_inside xs v f walk.within walk.ends))
   where
-    go : (x : Item) → Holds (ends_by top x) → Holds (inside (length xs) x) → (low ≡ top) ⊎ (low ≡ length xs) → Holds (ends_by low x)
-    go x (inl k) m l = inl k
-    go x (inr k) (inl m) l = inl m
-    go x (inr k) (inr m) (inl l) = inr (omega arith)
-    go x (inr k) (inr m) (inr l) = inr (omega (arith, m.0))
+    go : (x : Item) → Holds (ends_by top x) → Holds (inside (length xs) x) → Holds (ends_by low x)
+    go x (inl k) m = inl k
+    go x (inr k) (inl m) = inl m
+    go x (inr k) (inr m) = inr (omega (arith, m.0))
 
 pub ready : (xs : List ℕ) (v f t n c z top low : ℕ) (start : Front) (r : ℕ) → Walkable xs v f → Entries xs t n c z
-    → Lower top (length xs) low → Around xs t n start → (low ≤ r) × (start.top ≤ r) × (r ≤ 16777216)
+    → low ≡ min top (length xs) → Around xs t n start → r ≡ max low start.top
     → Holds (each (sound c z) (walked xs v f)) → Holds (each (placed (t + 4 * n) c z) (walked xs v f))
     → Holds (each (ends_by top) (walked xs v f)) → Ready xs v f t n (t + 4 * n) r
 ready xs v f t n c z top low start r walk entries is patch high ok fine ends =
@@ -82,17 +75,17 @@ ready xs v f t n c z top low start r walk entries is patch high ok fine ends =
         ends = λ i h. (place_placed xs t i).fits (entries.good i h);
       };
       patch_high = λ i h. (entries.clears i h).0.0;
-      patch_ends = λ i h. omega (arith, patch.within.ends i h, high.1);
+      patch_ends = λ i h. omega (arith, patch.within.ends i h);
       words = each_so (λ x. placed (t + 4 * n) c z x and ends_by low x) (between (t + 4 * n) r) (walked xs v f) both
           (each_both (placed (t + 4 * n) c z) (ends_by low) (walked xs v f) fine (lowest xs v f top low walk is ends));
       solid = walked_solid xs v f (each_so (sound c z) unbroken (walked xs v f) (λ x h. h.0) ok);
-      top_small = high.2;
+      top_small = omega (arith, walk.small, patch.within.most);
     }
   where
     both : (x : Item) → Holds (placed (t + 4 * n) c z x and ends_by low x) → Holds (between (t + 4 * n) r x)
     both x ((there, inl k), e) = inl k
     both x ((there, inr k), inl e) = inl e
-    both x ((there, inr k), inr e) = inr (k.0, omega (arith, high.0))
+    both x ((there, inr k), inr e) = inr (k.0, omega arith)
 
 -- which of them gives the number
 module _ (xs : List ℕ) (v f t n c z : ℕ) where

@@ -11,28 +11,10 @@ ghost use Rattle.inside_walk.specs.Walkable.{Walkable};
 ghost use Rattle.inside_judge.specs.Rules.{patch_items};
 ghost use Rattle.apart_windows.specs.Windows.{Ready};
 ghost use Rattle.inside_rules.specs.Contents.{contents_number, Entries};
-ghost use Rattle.inside_rules.specs.ContentsLaws.{Lower, Around};
+ghost use Rattle.inside_rules.specs.ContentsLaws.{Around};
 
 use apart_front::Front;
-
-fn upper(x: usize, y: usize) -> usize
-    requires { (x ≤ 16777216) × (y ≤ 16777216) }
-    ensures { (x ≤ result) × (y ≤ result) × (result ≤ 16777216) }
-{
-    if x < y {
-        return y;
-    }
-    x
-}
-
-fn lower(x: usize, y: usize) -> usize
-    ensures { Lower x y result }
-{
-    if x < y {
-        return x;
-    }
-    y
-}
+use inside_judge::Limits;
 
 // The frontier that the patch words make: they lie from its high up to its top, and where there are none both are 0.
 fn around(image: &[u8], t: usize, n: usize) -> Front
@@ -40,17 +22,15 @@ fn around(image: &[u8], t: usize, n: usize) -> Front
     ensures { Around image.now t n result }
 {
     let mut low = image.len();
-    let mut top = 0;
-    let mut i = 0;
-    while i < n {
+    let mut top: usize = 0;
+    for i in 0..n {
         let p = table::spot_at(image, t, i);
-        low = lower(low, p);
-        top = upper(top, p + 4);
-        i += 1;
+        low = low.min(p);
+        top = top.max(p + 4);
     }
     Front {
         low: 0,
-        high: lower(low, top),
+        high: low.min(top),
         top,
     }
 }
@@ -69,7 +49,7 @@ fn are_apart(
     requires { Ready image.now v f t n E top × (Ordered front → Holds (apart_from (patch_items image.now t n) (walked image.now v f))) }
     ensures { Tells result (apart_from (patch_items image.now t n) (walked image.now v f)) }
 {
-    if apart_front::is_ordered(front) {
+    if front.is_ordered() {
         return true;
     }
     if apart_few::surely_apart(image, v, f, t, n) {
@@ -78,7 +58,8 @@ fn are_apart(
     apart_windows::words_apart(image, v, f, t, n, E, top)
 }
 
-// The number of the first of the three rules that isn't passed, or 0.
+// The number of the first of the three rules that isn't passed, or 0. It is told as the definition contents_number tells it, which the promises
+// of the rooms above name.
 pub fn contents_number(
     image: &[u8],
     v: usize,
@@ -93,14 +74,14 @@ pub fn contents_number(
 {
     let E = t + 4 * n;
     let start = around(image, t, n);
-    let j = inside_judge::judge(image, v, f, E, c, z, start);
+    let j = inside_judge::judge(image, v, f, Limits { E, c, z }, start);
     if !j.whole {
         return 25;
     }
     if !j.placed {
         return 26;
     }
-    let top = upper(lower(j.top, image.len()), start.top);
+    let top = j.top.min(image.len()).max(start.top);
     if !are_apart(image, v, f, t, n, E, top, j.front) {
         return 26;
     }

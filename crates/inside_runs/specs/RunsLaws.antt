@@ -1,9 +1,9 @@
 -- One entry more of a run, in order or not.
 -- Assumes nothing.
-use Rattle.std.specs.Prelude.{ℕ, suc, ◌+◌, ◌*◌, ◌/◌, ◌%◌, ◌≤◌, ◌<◌, true, List, ◌⊎◌, ◌≡◌, refl, length, get_or}
+use Rattle.std.specs.Prelude.{ℕ, ◌+◌, ◌/◌, ◌%◌, ◌≤◌, ◌<◌, List, ◌⊎◌, ◌≡◌, get_or}
 use Rattle.std.proofs.Common.{inl, inr, sym, ◌∙◌, arith, below_more, eq-eqb, ne_eqb}
 use Rattle.std.proofs.Math.Decide.{dec_lt, ℕ_discrete}
-use Rattle.apart_strokes.specs.Strokes.{Painting, Painted}
+use Rattle.apart_strokes.specs.Strokes.{Painting}
 use Rattle.inside_pages.specs.declared.Page.{Page}
 use Rattle.inside_runs.specs.Runs.{width_of, end_of, entry, InGap, Beside, Lain, Strewing}
 

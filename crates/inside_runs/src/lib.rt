@@ -16,7 +16,7 @@ pub struct Passed {
     pub low: usize,
 }
 
-// How many bytes the word of the entry e has, 0 where it names none.
+// How many bytes the word of the entry e has, 0 where it names none: no Option, since the loops test it among bounds, as a number.
 pub fn width(e: usize) -> usize
     ensures { (result ≡ width_of e) × (result ≤ 8) }
 {
@@ -47,33 +47,14 @@ pub fn is_sure(q: Page, o: usize, w: usize) -> bool
     true
 }
 
-fn lower(a: usize, b: usize) -> usize
-    ensures { (result ≤ a) × (result ≤ b) }
-{
-    if a <= b {
-        return a;
-    }
-    b
-}
-
-fn upper(a: usize, b: usize) -> usize
-    ensures { (a ≤ result) × (b ≤ result) × ((n : ℕ) → a ≤ n → b ≤ n → result ≤ n) }
-{
-    if a <= b {
-        return b;
-    }
-    a
-}
-
 // How many of the k entries from `at` on are words in the page's room that come in order into low..high, which is nearly always all of them.
 fn run(image: &[u8], q: Page, at: usize, k: usize, low: usize, high: usize) -> Passed
     requires { (at + 2 * k ≤ length image.now) × (q.at + q.room < 1099511627776) }
     ensures { (result.count ≤ k) × Lain image.now q low high at result.count result.low }
 {
-    let cap = lower(high, q.at + q.room);
+    let cap = high.min(q.at + q.room);
     let mut end = low;
-    let mut i = 0;
-    while i < k {
+    for i in 0..k {
         let e = words::le16(image, at + 2 * i);
         let w = width(e);
         let o = e % 4096;
@@ -91,9 +72,8 @@ fn run(image: &[u8], q: Page, at: usize, k: usize, low: usize, high: usize) -> P
             return Passed { count: i, low: end };
         }
         end = from + w;
-        i += 1;
     }
-    Passed { count: i, low: end }
+    Passed { count: k, low: end }
 }
 
 // Marks the w bytes at o, unless one of them is marked.
@@ -102,9 +82,9 @@ fn mark(marks: &mut [u8], o: usize, w: usize) -> bool
     ensures { Painted marks.old marks.new o (o + w) 0 2 result }
 {
     if w == 4 {
-        return apart_strokes::paint4(marks, o);
+        return apart_strokes::paint_word::<4>(marks, o);
     }
-    apart_strokes::paint8(marks, o)
+    apart_strokes::paint_word::<8>(marks, o)
 }
 
 // The same in whatever order: a mark for each byte of the page, and of the last word that can start in it, tells that a word shares none with
@@ -123,8 +103,7 @@ fn strewn(
     ensures { (result.count ≤ k) × Lain image.now q low high at result.count result.low }
 {
     let mut end = low;
-    let mut i = 0;
-    while i < k {
+    for i in 0..k {
         let e = words::le16(image, at + 2 * i);
         let w = width(e);
         let o = e % 4096;
@@ -141,10 +120,9 @@ fn strewn(
         if !mark(marks, o, w) {
             return Passed { count: i, low: end };
         }
-        end = upper(end, from + w);
-        i += 1;
+        end = end.max(from + w);
     }
-    Passed { count: i, low: end }
+    Passed { count: k, low: end }
 }
 
 // Whether entry i of the k from `at` on is there and names a word.
@@ -179,14 +157,12 @@ pub fn any(image: &[u8], q: Page, at: usize, k: usize) -> usize
     requires { at + 2 * k ≤ length image.now }
     ensures { (result ≤ k) × AnyIn image.now q at result }
 {
-    let mut i = 0;
-    while i < k {
+    for i in 0..k {
         let e = words::le16(image, at + 2 * i);
         let w = width(e);
         if !is_sure(q, e % 4096, w) {
             return i;
         }
-        i += 1;
     }
-    i
+    k
 }

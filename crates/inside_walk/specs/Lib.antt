@@ -1,4 +1,5 @@
 pub mod Whole
+pub mod Own
 pub mod WholeWalk
 pub mod WholeLaws
 pub mod Examples

@@ -1,6 +1,6 @@
 -- Request #107: what rules 3 and 4 give of the volume and its header file, so that the walk can start; and where a walk stands.
 -- Assumes nothing.
-use Rattle.items.specs.Items.{end_kind}
+use Rattle.items.specs.Items.{end_kind, kind_number}
 use Rattle.std.specs.Prelude.{ℕ, ◌+◌, ◌-◌, ◌≤◌, List, [], ◌∷◌, ◌++◌, ◌≡◌, length}
 use Rattle.std.proofs.Common.{append_assoc, append-nil, sym, ◌∙◌, arith}
 use Rattle.words.specs.Le.{le, Bytes}
@@ -36,10 +36,10 @@ module _ (xs : List ℕ) (v f : ℕ) where
 
   module _ (l : List Item) (s : Spot) (t : Move) (p : Passing xs v f l s) (step : Stepped xs v s t) where
     -- at the end all are passed
-    pub passing_end : t.item.kind ≡ end_kind → walked xs v f ≡ l
+    pub passing_end : kind_number t.item.kind ≡ end_kind → walked xs v f ≡ l
     passing_end z = p.all ∙ rw (step.ends z) (append-nil l)
 
     -- else one more is
-    pub passing_next : (t.item.kind ≡ end_kind → ⊥) → Passing xs v f (l ++ (t.item ∷ [])) t.next
+    pub passing_next : (kind_number t.item.kind ≡ end_kind → ⊥) → Passing xs v f (l ++ (t.item ∷ [])) t.next
     passing_next is =
         record { valid = step.valid; all = p.all ∙ rw (step.goes is) (sym (append_assoc l (t.item ∷ []) (ahead xs v t.next))) }

@@ -1,6 +1,6 @@
 -- Where the items of a volume lie, from any spot on.
 -- Assumes nothing.
-use Rattle.inside_rows.specs.Rows.{bad_kind}
+use Rattle.inside_rows.specs.Rows.{bad_kind, module_number}
 use Rattle.std.specs.Prelude.{ℕ, ◌+◌, ◌≤◌, ◌<◌, ◌⊎◌, ◌≡◌, refl, eqb, length}
 use mathlib.Core.List.{List, [], ◌∷◌}
 use Rattle.std.proofs.Math.Logic.{inl, inr}
@@ -17,7 +17,7 @@ use Rattle.items.specs.Judged.{unbroken}
 use Rattle.items.specs.Shapes.{from, sized, solid}
 use Rattle.inside_files.specs.declared.Part.{Part}
 use Rattle.inside_files.specs.declared.Place.{Place}
-use Rattle.inside_files.specs.Parts.{passed_over, first_at, first_place, broken_part, header_part, section_part}
+use Rattle.inside_files.specs.Parts.{passed_over, first_at, first_place, broken_part, header_part, section_part, part_number}
 use Rattle.inside_files.specs.Parts as files
 use Rattle.inside_files.specs.PartsEach.{Each, Met, ahead_met}
 use Rattle.inside_rows.specs.declared.Module.{Module}
@@ -31,22 +31,23 @@ use Rattle.inside_blocks.specs.BlocksEach.{ahead_from, ahead_inside, ahead_sized
 use Rattle.inside_walk.specs.declared.Spot.{Spot}
 use Rattle.inside_walk.specs.Whole.{module_in, item_for, spread, walked}
 use Rattle.inside_walk.specs.WholeWalk.{ahead}
+use Rattle.inside_walk.specs.Own.{own_word, own_header, own_broken}
 
 module _ (xs : List ℕ) where
   -- the module of a part is none, or lies in it after the section's header
-  pub module_in_lies : (p : Part) → Empty (module_in xs p) ⊎ ((p.kind ≡ section_part) × Lies (p.at + 4) (p.at + p.len) (module_in xs p))
+  pub module_in_lies : (p : Part) → Empty (module_in xs p) ⊎ ((part_number p.kind ≡ section_part) × Lies (p.at + 4) (p.at + p.len) (module_in xs p))
   unfolding module_in
   module_in_lies p =
-      by_cond (λ (m : Module). Empty m ⊎ ((p.kind ≡ section_part) × Lies (p.at + 4) (p.at + p.len) m)) (eqb p.kind section_part) _ _
+      by_cond (λ (m : Module). Empty m ⊎ ((part_number p.kind ≡ section_part) × Lies (p.at + 4) (p.at + p.len) m)) (eqb (part_number p.kind) section_part) _ _
       (λ e. elim (module_lies xs (p.at + 4) (p.at + p.len) p.sort) [
         | inl n ↦ inl n
-        | inr l ↦ inr (eqb-true p.kind section_part e, l)
+        | inr l ↦ inr (eqb-true (part_number p.kind) section_part e, l)
       ])
       (λ e. inl (inl refl))
 
   -- the items of a part's module: all of them, where it has one
   items_each : (P : Item → Fact) (p : Part)
-      → ((m : Module) → p.kind ≡ section_part → Lies (p.at + 4) (p.at + p.len) m → Holds (each P (blocksWalk.ahead xs m (start_of m))))
+      → ((m : Module) → part_number p.kind ≡ section_part → Lies (p.at + 4) (p.at + p.len) m → Holds (each P (blocksWalk.ahead xs m (start_of m))))
       → Holds (each P (items xs (module_in xs p)))
   items_each P p h =
       elim (module_in_lies p) [
@@ -56,7 +57,7 @@ module _ (xs : List ℕ) where
 
   -- what holds of each part's own item and of each of its module's holds of all
   spread_each : (P : Item → Fact) (Q : Part → Type 0) → ((p : Part) → Q p → Holds (P (item_for p (module_in xs p))))
-      → ((p : Part) (m : Module) → Q p → p.kind ≡ section_part → Lies (p.at + 4) (p.at + p.len) m → Holds (each P (blocksWalk.ahead xs m (start_of m))))
+      → ((p : Part) (m : Module) → Q p → part_number p.kind ≡ section_part → Lies (p.at + 4) (p.at + p.len) m → Holds (each P (blocksWalk.ahead xs m (start_of m))))
       → (l : List Part) → Each Q l → Holds (each P (spread xs l))
   unfolding spread Each each
   spread_each P Q own inner [] h = omega arith
@@ -69,36 +70,36 @@ module _ (xs : List ℕ) where
 own_from : (n : ℕ) (p : Part) (m : Module) → n ≤ p.at → Holds (from n (item_for p m))
 unfolding item_for
 own_from n p m h =
-    by_cond (λ (x : Item). Holds (from n x)) (eqb p.kind section_part) _ _
-    (λ e. by_cond (λ (x : Item). Holds (from n x)) (eqb m.kind bad_kind) _ _ (λ f. inr h) (λ f. inr h)) (λ e. inr h)
+    by_cond (λ (x : Item). Holds (from n x)) (eqb (part_number p.kind) section_part) _ _
+    (λ e. by_cond (λ (x : Item). Holds (from n x)) (eqb (module_number m.kind) bad_kind) _ _ (λ f. inr h) (λ f. inr h)) (λ e. inr h)
 
 -- it is no word
 own_inside : (n : ℕ) (p : Part) (m : Module) → Holds (inside n (item_for p m))
 unfolding item_for
 own_inside n p m =
-    by_cond (λ (x : Item). Holds (inside n x)) (eqb p.kind section_part) _ _
-    (λ e. by_cond (λ (x : Item). Holds (inside n x)) (eqb m.kind bad_kind) _ _ (λ f. inl (λ z. omega arith)) (λ f. inl (λ z. omega arith)))
-    (λ e. inl (λ z. eqb-false p.kind section_part e z))
+    by_cond (λ (x : Item). Holds (inside n x)) (eqb (part_number p.kind) section_part) _ _
+    (λ e. by_cond (λ (x : Item). Holds (inside n x)) (eqb (module_number m.kind) bad_kind) _ _ (λ f. inl (λ z. omega arith)) (λ f. inl (λ z. omega arith)))
+    (λ e. inl (own_word p.kind))
 
-own_sized : (p : Part) (m : Module) → (p.kind ≡ header_part) ⊎ ((p.kind ≡ section_part) ⊎ (p.kind ≡ broken_part)) → Holds (sized (item_for p m))
+own_sized : (p : Part) (m : Module) → (part_number p.kind ≡ header_part) ⊎ ((part_number p.kind ≡ section_part) ⊎ (part_number p.kind ≡ broken_part)) → Holds (sized (item_for p m))
 unfolding item_for
 own_sized p m h =
-    by_cond (λ (x : Item). Holds (sized x)) (eqb p.kind section_part) _ _
-    (λ e. by_cond (λ (x : Item). Holds (sized x)) (eqb m.kind bad_kind) _ _ (λ f. inr (inr (inl refl))) (λ f. inl refl))
-    (λ e. elim h [ inl k ↦ inl k | inr (inl k) ↦ inr (inl k) | inr (inr k) ↦ inr (inr (inl k)) ])
+    by_cond (λ (x : Item). Holds (sized x)) (eqb (part_number p.kind) section_part) _ _
+    (λ e. by_cond (λ (x : Item). Holds (sized x)) (eqb (module_number m.kind) bad_kind) _ _ (λ f. inr (inr (inl refl))) (λ f. inl refl))
+    (λ e. elim h [ inl k ↦ inl (own_header p.kind k) | inr (inl k) ↦ absurd (eqb-false (part_number p.kind) section_part e k) | inr (inr k) ↦ inr (inr (inl (own_broken p.kind k))) ])
 
 -- it has bytes, where it isn't broken
-own_solid : (p : Part) (m : Module) → (p.kind ≡ header_part → 1 ≤ p.len) → (p.kind ≡ header_part) ⊎ ((p.kind ≡ section_part) ⊎ (p.kind ≡ broken_part))
+own_solid : (p : Part) (m : Module) → (part_number p.kind ≡ header_part → 1 ≤ p.len) → (part_number p.kind ≡ header_part) ⊎ ((part_number p.kind ≡ section_part) ⊎ (part_number p.kind ≡ broken_part))
     → Holds (deny (unbroken (item_for p m)) or solid (item_for p m))
 unfolding item_for
 own_solid p m some h =
-    by_cond (λ (x : Item). Holds (deny (unbroken x) or solid x)) (eqb p.kind section_part) _ _
-    (λ e. by_cond (λ (x : Item). Holds (deny (unbroken x) or solid x)) (eqb m.kind bad_kind) _ _ (λ f. inr (inr (omega arith)))
+    by_cond (λ (x : Item). Holds (deny (unbroken x) or solid x)) (eqb (part_number p.kind) section_part) _ _
+    (λ e. by_cond (λ (x : Item). Holds (deny (unbroken x) or solid x)) (eqb (module_number m.kind) bad_kind) _ _ (λ f. inr (inr (omega arith)))
     (λ f. inr (inr (omega arith))))
     (λ e. elim h [
       | inl k ↦ inr (inr (some k))
-      | inr (inl k) ↦ absurd (eqb-false p.kind section_part e k)
-      | inr (inr k) ↦ inl (λ z. z k)
+      | inr (inl k) ↦ absurd (eqb-false (part_number p.kind) section_part e k)
+      | inr (inr k) ↦ inl (λ z. z (own_broken p.kind k))
     ])
 
 -- ---- the words of one module
@@ -114,7 +115,7 @@ module_inside xs n p m l lies =
     (ahead_inside xs m (p.at + 4) (p.at + p.len) (start_of m) lies)
 
 -- those of a section's module have 4 or 8 bytes and end by n, where the section does
-pub items_inside : (xs : List ℕ) (n : ℕ) (p : Part) → (p.kind ≡ section_part → p.at + p.len ≤ n)
+pub items_inside : (xs : List ℕ) (n : ℕ) (p : Part) → (part_number p.kind ≡ section_part → p.at + p.len ≤ n)
     → Holds (each (inside n) (items xs (module_in xs p)))
 items_inside xs n p h = items_each xs (inside n) p (λ m k lies. module_inside xs n p m (h k) lies)
 

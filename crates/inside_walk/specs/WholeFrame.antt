@@ -10,20 +10,20 @@ use borrow.Author.Tests.{eqb-true, eq-eqb, ne_eqb}
 use Rattle.facts.specs.Fact.{Holds}
 use Rattle.facts.specs.RulesLaws.{by_cond}
 use Rattle.words.specs.Le.{Alike}
-use Rattle.items.specs.Items.{each, word_kind}
+use Rattle.items.specs.Items.{each, word_kind, kind_number, broken_kind}
 use Rattle.items.specs.ItemsLaws.{each_fork}
 use Rattle.items.specs.Judged.{unbroken}
 use Rattle.items.specs.Shapes.{Kept}
 use Rattle.items.specs.KeptLaws.{kept_left, kept_right}
 use Rattle.inside_files.specs.declared.Part.{Part}
 use Rattle.inside_files.specs.declared.Place.{Place}
-use Rattle.inside_files.specs.Parts.{first_place, broken_part, section_part}
+use Rattle.inside_files.specs.Parts.{first_place, broken_part, section_part, part_number}
 use Rattle.inside_files.specs.Parts as files
 use Rattle.inside_files.specs.PartsEach.{Each}
 use Rattle.inside_files.specs.PartsFrame.{Seen, first_cong}
 use Rattle.inside_files.specs.PartsFrame as files-frame
 use Rattle.inside_rows.specs.declared.Module.{Module}
-use Rattle.inside_rows.specs.Rows.{no_module, bad_kind}
+use Rattle.inside_rows.specs.Rows.{no_module, bad_kind, module_number}
 use Rattle.inside_modules.specs.Modules.{module_of}
 use Rattle.inside_modules.specs.Bounds.{Empty, Lies}
 use Rattle.inside_modules.specs.Frame.{module_cong}
@@ -33,26 +33,27 @@ use Rattle.inside_blocks.specs.BlocksWalk as blocksWalk
 use Rattle.inside_blocks.specs.BlocksFrame.{items_cong, items_seen, rows_seen}
 use Rattle.inside_blocks.specs.BlocksFrame as blocks_frame
 use Rattle.inside_walk.specs.declared.Spot.{Spot}
-use Rattle.inside_walk.specs.Whole.{module_in, item_for, spread, walked}
+use Rattle.inside_walk.specs.Whole.{module_in, item_for, spread, walked, item_kind}
 use Rattle.inside_walk.specs.WholeWalk.{ahead}
 use Rattle.inside_walk.specs.WholeAbove.{module_in_lies}
+use Rattle.inside_walk.specs.Own.{own_word, own_broken}
 
 module _ (a b : List ℕ) where
   -- a part whose item is kept and not broken: what is looked at of it is kept, and so isn't its module broken
   own_seen : (p : Part) (m : Module) → Holds (unbroken (item_for p m))
-      → (((item_for p m).kind ≡ word_kind → ⊥) → Alike a b (item_for p m).at (item_for p m).len)
-      → Seen a b p × (p.kind ≡ section_part → m.kind ≡ bad_kind → ⊥)
+      → ((kind_number (item_for p m).kind ≡ word_kind → ⊥) → Alike a b (item_for p m).at (item_for p m).len)
+      → Seen a b p × (part_number p.kind ≡ section_part → module_number m.kind ≡ bad_kind → ⊥)
   unfolding item_for
   own_seen p m ok kept =
-      elim (ℕ_discrete p.kind section_part) [
+      elim (ℕ_discrete (part_number p.kind) section_part) [
         | no k ↦
-            let whole : p.kind ≡ broken_part → ⊥ = rw (ne_eqb p.kind section_part k) at ok in
-            let same : (p.kind ≡ section_part → ⊥) → Alike a b p.at p.len = rw (ne_eqb p.kind section_part k) at kept in
-            (record { whole = whole; header = λ e. same k; section = λ e. absurd (k e) }, λ e. absurd (k e))
-        | yes k ↦ elim (ℕ_discrete m.kind bad_kind) [
-          | yes l ↦ absurd ((rw (eq-eqb p.kind section_part k, eq-eqb m.kind bad_kind l) at ok) refl)
+            let there : kind_number (item_kind p.kind) ≡ broken_kind → ⊥ = rw (ne_eqb (part_number p.kind) section_part k) at ok in
+            let same : (kind_number (item_kind p.kind) ≡ word_kind → ⊥) → Alike a b p.at p.len = rw (ne_eqb (part_number p.kind) section_part k) at kept in
+            (record { whole = λ e. there (own_broken p.kind e); header = λ e. same (own_word p.kind); section = λ e. absurd (k e) }, λ e. absurd (k e))
+        | yes k ↦ elim (ℕ_discrete (module_number m.kind) bad_kind) [
+          | yes l ↦ absurd ((rw (eq-eqb (part_number p.kind) section_part k, eq-eqb (module_number m.kind) bad_kind l) at ok) refl)
           | no l ↦
-              let same : (◌≡◌ {A = ℕ} 1 2 → ⊥) → Alike a b p.at 4 = rw (eq-eqb p.kind section_part k, ne_eqb m.kind bad_kind l) at kept in (
+              let same : (◌≡◌ {A = ℕ} 1 2 → ⊥) → Alike a b p.at 4 = rw (eq-eqb (part_number p.kind) section_part k, ne_eqb (module_number m.kind) bad_kind l) at kept in (
                 record { whole = λ e. omega arith; header = λ e. absurd (omega arith); section = λ e. same (λ z. omega arith) },
                 λ e. l,
               )
@@ -60,27 +61,27 @@ module _ (a b : List ℕ) where
       ]
 
   -- its module, and the items of that, are the same
-  module_same : (p : Part) → (p.kind ≡ section_part → (module_in a p).kind ≡ bad_kind → ⊥) → Kept a b (items a (module_in a p))
+  module_same : (p : Part) → (part_number p.kind ≡ section_part → module_number (module_in a p).kind ≡ bad_kind → ⊥) → Kept a b (items a (module_in a p))
       → (module_in a p ≡ module_in b p) × (items a (module_in a p) ≡ items b (module_in a p))
   unfolding module_in
   module_same p ok kept =
       let lo = p.at + 4 in
       let hi = p.at + p.len in
       let seen : modules.Seen a b (module_in a p) = items_seen a b lo hi (module_in a p) bounded whole kept in (
-        same (eqb p.kind section_part) whole seen,
+        same (eqb (part_number p.kind) section_part) whole seen,
         items_cong a b (module_in a p) (rows_seen a b lo hi (module_in a p) bounded seen) kept,
       )
     where
       bounded : Empty (module_in a p) ⊎ Lies (p.at + 4) (p.at + p.len) (module_in a p)
       bounded = elim (module_in_lies a p) [ inl e ↦ inl e | inr l ↦ inr l.1 ]
 
-      whole : (module_in a p).kind ≡ bad_kind → ⊥
+      whole : module_number (module_in a p).kind ≡ bad_kind → ⊥
       whole =
-          by_cond (λ (m : Module). (p.kind ≡ section_part → m.kind ≡ bad_kind → ⊥) → m.kind ≡ bad_kind → ⊥) (eqb p.kind section_part) _ _
-          (λ e bad. bad (eqb-true p.kind section_part e)) (λ e bad z. omega arith) ok
+          by_cond (λ (m : Module). (part_number p.kind ≡ section_part → module_number m.kind ≡ bad_kind → ⊥) → module_number m.kind ≡ bad_kind → ⊥) (eqb (part_number p.kind) section_part) _ _
+          (λ e bad. bad (eqb-true (part_number p.kind) section_part e)) (λ e bad z. omega arith) ok
 
       same : (t : Bool) → let m = cond t (module_of a p.sort (p.at + 4) (p.at + p.len)) no_module in
-          (m.kind ≡ bad_kind → ⊥) → modules.Seen a b m → m ≡ cond t (module_of b p.sort (p.at + 4) (p.at + p.len)) no_module
+          (module_number m.kind ≡ bad_kind → ⊥) → modules.Seen a b m → m ≡ cond t (module_of b p.sort (p.at + 4) (p.at + p.len)) no_module
       same true = module_cong a b p.sort (p.at + 4) (p.at + p.len)
       same false = λ e seen. refl
 

@@ -1,7 +1,7 @@
 -- A step of either cursor is a step of both.
 -- Assumes nothing.
-use Rattle.inside_files.specs.Parts.{no_part, section_part}
-use Rattle.items.specs.Items.{end_kind}
+use Rattle.inside_files.specs.Parts.{no_part, section_part, part_number}
+use Rattle.items.specs.Items.{end_kind, kind_number}
 use Rattle.std.specs.Prelude.{ℕ, ◌+◌, ◌-◌, ◌*◌, ◌≤◌, ◌<◌, List, [], ◌∷◌, ◌++◌, ◌≡◌, refl, eqb, length}
 use Rattle.std.proofs.Math.Logic.{inl, inr}
 use Rattle.std.proofs.Common.{sym, ap, ◌∙◌, eqb-true}
@@ -28,14 +28,15 @@ use Rattle.inside_walk.specs.declared.Spot.{Spot}
 use Rattle.inside_walk.specs.declared.Move.{Move}
 use Rattle.inside_walk.specs.Whole.{module_in, item_for, spread, walked}
 use Rattle.inside_walk.specs.WholeWalk.{ahead, first_spot, far, Valid, Stepped, Ended}
+use Rattle.items.specs.Shapes.{Small}
 
 -- the module of a part that lies in the image lies within its bounds
-pub module_in_fits : (xs : List ℕ) (p : Part) → Bytes xs → length xs ≤ 16777216 → (p.kind ≡ section_part → p.at + p.len ≤ length xs)
+pub module_in_fits : (xs : List ℕ) (p : Part) → Bytes xs → length xs ≤ 16777216 → (part_number p.kind ≡ section_part → p.at + p.len ≤ length xs)
     → Fits xs (module_in xs p)
 unfolding module_in
 module_in_fits xs p bytes long inside =
-    by_cond (Fits xs) (eqb p.kind section_part) _ _
-    (λ e. module_fits xs bytes long p.sort (p.at + 4) (p.at + p.len) (inside (eqb-true p.kind section_part e)))
+    by_cond (Fits xs) (eqb (part_number p.kind) section_part) _ _
+    (λ e. module_fits xs bytes long p.sort (p.at + 4) (p.at + p.len) (inside (eqb-true (part_number p.kind) section_part e)))
     (λ e. no_fits xs bytes long)
 
 -- ---- the start
@@ -59,7 +60,7 @@ first_spot_valid xs v f bytes long small ends low fits =
 
 module _ (xs : List ℕ) (v : ℕ) (s : Spot) (valid : Valid xs v s) where
   -- inside the module
-  pub inner : (t : blocks_turn.Turn) (u : Move) → blocksWalk.Stepped xs s.m s.c t → (t.item.kind ≡ end_kind → ⊥)
+  pub inner : (t : blocks_turn.Turn) (u : Move) → blocksWalk.Stepped xs s.m s.c t → (kind_number t.item.kind ≡ end_kind → ⊥)
       → u ≡ record { item = t.item; next = record { place = s.place; m = s.m; c = t.next } } → Stepped xs v s u
   unfolding ahead
   inner t u step is e =
@@ -74,12 +75,12 @@ module _ (xs : List ℕ) (v : ℕ) (s : Spot) (valid : Valid xs v s) where
         entered = inl refl;
       })
 
-  pub ended : (t : blocks_turn.Turn) → blocksWalk.Stepped xs s.m s.c t → t.item.kind ≡ end_kind → Ended xs s t.item
+  pub ended : (t : blocks_turn.Turn) → blocksWalk.Stepped xs s.m s.c t → kind_number t.item.kind ≡ end_kind → Ended xs s t.item
   ended t step z = record { none = step.ends z; zero = z; small = step.small }
 
   module _ (x : Item) (done : Ended xs s x) (p : files-turn.Turn) (on : filesWalk.Stepped xs v s.place p) where
     -- at the end of both
-    pub last : (u : Move) → p.part.kind ≡ no_part → u ≡ record { item = x; next = s } → Stepped xs v s u
+    pub last : (u : Move) → part_number p.part.kind ≡ no_part → u ≡ record { item = x; next = s } → Stepped xs v s u
     unfolding ahead spread
     last u z e =
         rw e
@@ -94,9 +95,9 @@ module _ (xs : List ℕ) (v : ℕ) (s : Spot) (valid : Valid xs v s) where
         })
 
     -- on to the next part
-    pub outer : (u : Move) → (p.part.kind ≡ no_part → ⊥) → Fits xs (module_in xs p.part)
-        → ((item_for p.part (module_in xs p.part)).kind ≡ 0 → ⊥)
-        → (item_for p.part (module_in xs p.part)).at + (item_for p.part (module_in xs p.part)).len < 1099511627776
+    pub outer : (u : Move) → (part_number p.part.kind ≡ no_part → ⊥) → Fits xs (module_in xs p.part)
+        → (kind_number (item_for p.part (module_in xs p.part)).kind ≡ 0 → ⊥)
+        → Small (item_for p.part (module_in xs p.part))
         → u
         ≡ record {
           item = item_for p.part (module_in xs p.part);

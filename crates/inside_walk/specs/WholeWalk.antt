@@ -1,6 +1,6 @@
 -- One cursor through all items of a volume: the walk over files and sections, and in each module the walk over its headers and blocks.
 -- Assumes nothing.
-use Rattle.items.specs.Items.{end_kind, kept_kind}
+use Rattle.items.specs.Items.{end_kind, kept_kind, kind_number}
 use Rattle.std.specs.Prelude.{ℕ, ◌+◌, ◌*◌, ◌<◌, List, [], ◌∷◌, ◌++◌, ◌⊎◌, ◌≡◌}
 use Rattle.items.specs.declared.Item.{Item}
 use Rattle.inside_files.specs.Parts as files
@@ -12,6 +12,7 @@ use Rattle.inside_blocks.specs.BlocksWalk as blocksWalk
 use Rattle.inside_walk.specs.declared.Spot.{Spot}
 use Rattle.inside_walk.specs.declared.Move.{Move}
 use Rattle.inside_walk.specs.Whole.{spread}
+use Rattle.items.specs.Shapes.{Small}
 
 -- ---- the cursor
 
@@ -35,19 +36,19 @@ pub record Valid (xs : List ℕ) (v : ℕ) (s : Spot) : Type 0 where
 
 -- a step from s: its item is the next of those ahead, and the rest is ahead of the spot that it gives
 pub record Stepped (xs : List ℕ) (v : ℕ) (s : Spot) (t : Move) : Type 0 where
-  pub ends : t.item.kind ≡ end_kind → ahead xs v s ≡ []
-  pub goes : (t.item.kind ≡ end_kind → ⊥) → ahead xs v s ≡ t.item ∷ ahead xs v t.next
-  pub less : (t.item.kind ≡ end_kind → ⊥) → far v t.next < far v s
+  pub ends : kind_number t.item.kind ≡ end_kind → ahead xs v s ≡ []
+  pub goes : (kind_number t.item.kind ≡ end_kind → ⊥) → ahead xs v s ≡ t.item ∷ ahead xs v t.next
+  pub less : (kind_number t.item.kind ≡ end_kind → ⊥) → far v t.next < far v s
   pub valid : Valid xs v t.next
   -- entries to come lie in the block at hand, or there are none, or they lie in the block just met
   pub held : EntriesIn s.c.at (2 * s.c.left) t.next.c
-      ⊎ ((t.next.c.left ≡ 0) ⊎ ((t.item.kind ≡ kept_kind) × EntriesIn t.item.at t.item.len t.next.c))
-  pub small : t.item.at + t.item.len < 1099511627776
+      ⊎ ((t.next.c.left ≡ 0) ⊎ ((kind_number t.item.kind ≡ kept_kind) × EntriesIn t.item.at t.item.len t.next.c))
+  pub small : Small t.item
   -- the module stays, or all items of the next one are ahead
   pub entered : (t.next.m ≡ s.m) ⊎ (t.next.c ≡ start_of t.next.m)
 
 -- the module at hand is done, and x says so
 pub record Ended (xs : List ℕ) (s : Spot) (x : Item) : Type 0 where
   pub none : blocksWalk.ahead xs s.m s.c ≡ []
-  pub zero : x.kind ≡ end_kind
-  pub small : x.at + x.len < 1099511627776
+  pub zero : kind_number x.kind ≡ end_kind
+  pub small : Small x

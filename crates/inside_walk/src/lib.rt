@@ -3,13 +3,16 @@
 
 ghost use Rattle.std.specs.Prelude.{◌≡◌, ◌+◌, ◌≤◌, ◌<◌, length};
 ghost use Rattle.inside_walk.specs.Entries.{count_of, past_of};
-ghost use Rattle.inside_walk.specs.Whole.{module_in, item_for};
+ghost use Rattle.inside_walk.specs.Whole.{module_in, item_kind, item_for};
 ghost use Rattle.inside_walk.specs.WholeWalk.{first_spot, Valid, Stepped, Ended};
+ghost use Rattle.items.specs.Items.{end_kind, kind_number};
+ghost use Rattle.inside_files.specs.Parts.{no_part, section_part, part_number};
+ghost use Rattle.items.specs.Shapes.{Small};
 
 use inside_blocks::Cursor;
-use inside_files::{Part, Place};
-use inside_rows::Module;
-use items::Item;
+use inside_files::{Part, PartKind, Place};
+use inside_rows::{Module, ModuleKind};
+use items::{Item, Kind};
 
 // Where the walk stands: among the files, and in a module.
 #[derive(Clone, Copy)]
@@ -27,10 +30,10 @@ pub struct Move {
 
 // The module of a part, if it is a section that holds one.
 pub fn module_in(image: &[u8], p: Part) -> Module
-    requires { (length image.now ≤ 16777216) × (p.kind ≡ 2 → (4 ≤ p.len) × (p.at + p.len ≤ length image.now)) }
+    requires { (length image.now ≤ 16777216) × (part_number p.kind ≡ section_part → (4 ≤ p.len) × (p.at + p.len ≤ length image.now)) }
     ensures { result ≡ module_in image.now p }
 {
-    if p.kind == inside_files::SECTION {
+    if p.kind == PartKind::Section {
         let lo = p.at + 4;
         let hi = p.at + p.len;
         return inside_modules::module_of(image, p.sort, lo, hi);
@@ -38,27 +41,39 @@ pub fn module_in(image: &[u8], p: Part) -> Module
     inside_rows::none()
 }
 
+// The kind of the item of a part, where it is no section with a module that doesn't fit.
+fn item_kind(k: PartKind) -> Kind
+    ensures { result ≡ item_kind k }
+{
+    match k {
+        PartKind::End => Kind::End,
+        PartKind::Header => Kind::Kept,
+        PartKind::Section => Kind::Kept,
+        PartKind::Broken => Kind::Broken,
+    }
+}
+
 // The item of a part with this module.
 pub fn item_for(p: Part, m: Module) -> Item
     requires { p.at + p.len ≤ 33554432 }
-    ensures { (result ≡ item_for p m) × ((result.kind ≡ 0) → p.kind ≡ 0) × (result.at + result.len < 1099511627776) }
+    ensures { (result ≡ item_for p m) × (kind_number result.kind ≡ end_kind → part_number p.kind ≡ no_part) × Small result }
 {
-    if p.kind == inside_files::SECTION {
-        if m.kind == inside_rows::BAD {
+    if p.kind == PartKind::Section {
+        if m.kind == ModuleKind::Bad {
             return Item {
-                kind: items::BROKEN,
+                kind: Kind::Broken,
                 at: p.at,
                 len: 4,
             };
         }
         return Item {
-            kind: items::KEPT,
+            kind: Kind::Kept,
             at: p.at,
             len: 4,
         };
     }
     Item {
-        kind: p.kind,
+        kind: item_kind(p.kind),
         at: p.at,
         len: p.len,
     }
@@ -87,7 +102,7 @@ fn part_step(image: &[u8], v: usize, s: Spot, x: Item) -> Move
     let u = inside_files::step(image, v, place);
     let part = u.part;
     let on = u.next;
-    if part.kind == inside_files::NO_PART {
+    if part.kind == PartKind::End {
         return Move { item: x, next: s };
     }
     let m = module_in(image, part);
@@ -102,7 +117,7 @@ fn part_step(image: &[u8], v: usize, s: Spot, x: Item) -> Move
     }
 }
 
-// The next item of the whole volume, with the spot after it; kind 0 at the end.
+// The next item of the whole volume, with the spot after it; the last is `End`.
 pub fn step(image: &[u8], v: usize, s: Spot) -> Move
     requires { (v ≤ length image.now) × (length image.now ≤ 16777216) × Valid image.now v s }
     ensures { Stepped image.now v s result }
@@ -112,7 +127,7 @@ pub fn step(image: &[u8], v: usize, s: Spot) -> Move
     let t = inside_blocks::step(image, m, s.c);
     let item = t.item;
     let c = t.next;
-    if item.kind != items::END {
+    if item.kind != Kind::End {
         return Move {
             item,
             next: Spot { place, m, c },
@@ -137,19 +152,11 @@ pub fn past(s: Spot, k: usize) -> Spot
     requires { (k ≡ count_of s) × (k ≤ s.c.left) }
     ensures { result ≡ past_of s }
 {
-    let place = s.place;
-    let m = s.m;
-    let c = s.c;
-    let left = c.left - k;
     Spot {
-        place,
-        m,
         c: Cursor {
-            heads: c.heads,
-            used: c.used,
-            at: c.at,
-            left,
-            page: c.page,
+            left: s.c.left - k,
+            ..s.c
         },
+        ..s
     }
 }

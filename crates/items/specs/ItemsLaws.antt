@@ -1,8 +1,8 @@
 -- A check of each item, of lists made longer.
 -- Assumes nothing.
-use Rattle.std.specs.Prelude.{ℕ, zero, suc, ◌+◌, ◌≤◌, ◌<◌, List, [], ◌∷◌, ◌++◌, ◌⊎◌, ◌≡◌, length, take, drop}
+use Rattle.std.specs.Prelude.{ℕ, zero, suc, ◌<◌, List, [], ◌∷◌, ◌++◌, ◌≡◌, length, take, drop}
 use Rattle.std.proofs.Common.{append_assoc, append-nil, inl, inr, ap, arith}
-use Rattle.facts.specs.Fact.{Fact, ◌≤?◌, ◌≡?◌, deny, ◌and◌, ◌or◌, Holds}
+use Rattle.facts.specs.Fact.{Fact, ◌≤?◌, ◌and◌, Holds}
 use Rattle.items.specs.declared.Item.{Item}
 use Rattle.items.specs.Items.{each, apart, apart_from}
 

@@ -10,7 +10,7 @@ use Rattle.facts.specs.Fact.{◌≡?◌, ◌or◌, Holds}
 use Rattle.words.specs.Le.{Alike}
 use Rattle.moves.specs.Moves.{Beside}
 use Rattle.items.specs.declared.Item.{Item}
-use Rattle.items.specs.Items.{each, apart, apart_from, words_in, nth, listed, word_kind}
+use Rattle.items.specs.Items.{each, apart, apart_from, words_in, nth, listed, word_kind, kind_number}
 use Rattle.items.specs.ItemsLaws.{each_so, each_join, each_last, apart_turned, apart_across}
 use Rattle.items.specs.Judged.{off, sound}
 use Rattle.items.specs.Shapes.{sized, Kept}
@@ -38,19 +38,19 @@ apart_first x before [] far h = h
 apart_first x before (y ∷ l) (now, far) (h, t) = ((now, h), apart_first x (before ++ (y ∷ [])) l far t)
 
 -- what is no word is apart from all, those before it, itself, and those after it
-apart_all : (before l : List Item) → Holds (apart_from before l) → Holds (each (λ x. x.kind ≡? word_kind or each (apart x) (before ++ l)) l)
+apart_all : (before l : List Item) → Holds (apart_from before l) → Holds (each (λ x. (kind_number x.kind) ≡? word_kind or each (apart x) (before ++ l)) l)
 unfolding each apart_from
 apart_all before [] h = h
 apart_all before (x ∷ l) (h, t) =
     let e : (before ++ (x ∷ [])) ++ l ≡ before ++ (x ∷ l) = append_assoc before (x ∷ []) l in
-    (now (ℕ_discrete x.kind word_kind), rw e at (apart_all (before ++ (x ∷ [])) l t))
+    (now (ℕ_discrete (kind_number x.kind) word_kind), rw e at (apart_all (before ++ (x ∷ [])) l t))
   where
     after : Holds (each (apart x) l)
     after =
         each_so (λ y. apart y x) (apart x) l (λ y k. apart_turned x y k)
         (each_last (λ x. each (λ y. apart y x) l) before x (apart_across (before ++ (x ∷ [])) l t)).1
 
-    now : Dec (x.kind ≡ word_kind) → Holds (x.kind ≡? word_kind or each (apart x) (before ++ (x ∷ l)))
+    now : Dec (kind_number x.kind ≡ word_kind) → Holds (kind_number x.kind ≡? word_kind or each (apart x) (before ++ (x ∷ l)))
     now (yes e) = inl e
     now (no e) = inr (each_join (apart x) before (x ∷ l) h (inl (e, e), after))
 
@@ -60,7 +60,7 @@ module _ (a b : List ℕ) (all : List Item) (c z : ℕ)
     (but : (k : ℕ) → Beside (listed (words_in all)) (length (words_in all)) k → (k < c) ⊎ (c + z ≤ k) → get_or a k 0 ≡ get_or b k 0)
   where
     -- an item that is no word, is apart from all words and off the region
-    alike_off : (x : Item) → (x.kind ≡ word_kind → ⊥) → Holds (off c z x) → Holds (each (apart x) all) → Alike a b x.at x.len
+    alike_off : (x : Item) → (kind_number x.kind ≡ word_kind → ⊥) → Holds (off c z x) → Holds (each (apart x) all) → Alike a b x.at x.len
     alike_off x other out far =
         record { same = λ j h. but (x.at + j) (λ i n. beside j h i (each_nth (apart x) all i far n)) (side j h out) }
       where
@@ -68,19 +68,19 @@ module _ (a b : List ℕ) (all : List Item) (c z : ℕ)
         side j h (inl o) = inl (omega arith)
         side j h (inr o) = inr (omega arith)
 
-        beside : (j : ℕ) → j < x.len → (i : ℕ) → Holds (apart x (nth (words_in all) i)) × ((nth (words_in all) i).kind ≡ word_kind)
+        beside : (j : ℕ) → j < x.len → (i : ℕ) → Holds (apart x (nth (words_in all) i)) × (kind_number (nth (words_in all) i).kind ≡ word_kind)
             → (x.at + j < (nth (words_in all) i).at) ⊎ ((nth (words_in all) i).at + (nth (words_in all) i).len ≤ x.at + j)
         beside j h i (inl n, two) = absurd (n.1 two)
         beside j h i (inr (inl n), two) = inl (omega arith)
         beside j h i (inr (inr n), two) = inr (omega arith)
 
     kept_apart : (l : List Item) → Holds (each (sound c z) l) → Holds (each sized l)
-        → Holds (each (λ x. x.kind ≡? word_kind or each (apart x) all) l) → Kept a b l
+        → Holds (each (λ x. (kind_number x.kind) ≡? word_kind or each (apart x) all) l) → Kept a b l
     unfolding each Kept
     kept_apart [] ok size far = tt
     kept_apart (x ∷ l) (ok, oks) (size, sizes) (far, fars) = ((λ other. now other far ok size), kept_apart l oks sizes fars)
       where
-        now : (x.kind ≡ word_kind → ⊥) → Holds (x.kind ≡? word_kind or each (apart x) all) → Holds (sound c z x) → Holds (sized x)
+        now : (kind_number x.kind ≡ word_kind → ⊥) → Holds (kind_number x.kind ≡? word_kind or each (apart x) all) → Holds (sound c z x) → Holds (sized x)
             → Alike a b x.at x.len
         now other (inl e) ok size = absurd (other e)
         now other (inr e) (there, inl n) (inl s) = absurd (n s)

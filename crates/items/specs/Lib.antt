@@ -1,4 +1,5 @@
 pub mod Items
+pub mod Kinds
 pub mod ItemsLaws
 pub mod Listed
 pub mod Judged

@@ -2,7 +2,7 @@
 -- Assumes nothing.
 use Rattle.std.specs.Prelude.{ℕ, zero, suc, ◌+◌, ◌-◌, ◌^◌, min, cond, List, [], ◌∷◌, length}
 use Rattle.facts.specs.Fact.{Fact, ◌≤?◌, ◌≡?◌, deny, ◌and◌, ◌or◌, test, Holds}
-use Rattle.map_ranges.specs.Ranges.{Range}
+use Rattle.map_ranges.specs.declared.Range.{Range}
 
 -- the byte at x lies in a range
 abbrev pub covers : Range → ℕ → Fact

@@ -8,11 +8,12 @@ use Rattle.std.proofs.Math.Path.{refl}
 use Rattle.std.proofs.Common.{sym, subst, ◌∙◌}
 use native.Mathlib.Omega.{arith}
 use Rattle.std.proofs.Math.Decide.{dec_lt}
-use Rattle.facts.specs.Fact.{Fact, ◌≤?◌, ◌≡?◌, deny, ◌and◌, ◌or◌, test, Holds, Says}
+use Rattle.facts.specs.Fact.{Fact, ◌≤?◌, ◌≡?◌, deny, ◌and◌, test, Holds, Says}
 use Rattle.facts.specs.FactLaws.{says, passes, fails}
 use Rattle.facts.specs.RulesLaws.{by_test}
-use Rattle.map_ranges.specs.Ranges.{Range, ends, all_end}
-use Rattle.map_free.specs.Free.{Free, covers, held, free_byte, Span, span, begin, stop, lowest, next_free, next_taken, spans_from, map_from, memory_map}
+use Rattle.map_ranges.specs.declared.Range.{Range}
+use Rattle.map_ranges.specs.Ranges.{all_end}
+use Rattle.map_free.specs.Free.{Free, held, free_byte, Span, span, begin, stop, lowest, next_free, next_taken, spans_from, map_from}
 use Rattle.map_free.specs.Runs.{Run, Runs, runs_one}
 
 pub decide : (p : Fact) → Holds p ⊎ (Holds p → ⊥)

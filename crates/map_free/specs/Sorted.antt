@@ -1,59 +1,49 @@
--- The order of the ranges has no say: a table that has them in order of their starts has the same free bytes, so the same map.
+-- The order of the ranges has no say: rows that have them in order of their starts have the same free bytes, so the same map.
 -- Assumes nothing.
-use Rattle.std.specs.Prelude.{ℕ, zero, suc, ◌+◌, ◌≤◌, ◌<◌, List, [], ◌∷◌, ◌++◌, ◌≡◌, refl, length}
-use Rattle.std.proofs.Common.{inl, inr, sym, subst, ◌∙◌, arith}
-use Rattle.std.proofs.Math.Decide.{dec_lt}
-use Rattle.facts.specs.Fact.{Holds}
-use Rattle.map_ranges.specs.declared.Gathered.{Gathered}
-use Rattle.map_ranges.specs.Ranges.{Range, ranges, ends, all_end}
-use Rattle.map_ranges.specs.Table.{row_at, ranges_in, all_append, row_ends}
-use Rattle.map_order.specs.Order.{Orders}
-use Rattle.map_order.specs.Collect.{Collects}
+use Rattle.std.specs.Prelude.{ℕ, ◌+◌, ◌≤◌, Bool, true, false, not, ◌&&◌, ◌||◌, List, [], ◌∷◌, ◌≡◌, IsPermutation, refl, length, take}
+use Rattle.std.proofs.Common.{inl, sym, ◌∙◌, arith, length-take-le}
+use Rattle.std.proofs.lemmas.List.Sorted.{list_any-IsPermutation}
+use Rattle.std.specs.List.{list_any}
+use Rattle.facts.specs.Fact.{Holds, test}
+use Rattle.facts.specs.FactLaws.{passes, holds}
+use Rattle.map_ranges.specs.declared.Range.{Range}
+use Rattle.map_ranges.specs.Ranges.{ranges, ends, all_end}
+use Rattle.map_order.specs.Collect.{Collected}
 use Rattle.map_free.specs.Free.{Free, held, Span, memory_map}
-use Rattle.map_free.specs.Runs.{Run, Runs, runs_one}
+use Rattle.map_free.specs.Runs.{Runs, runs_one}
 use Rattle.map_free.specs.FreeLaws.{map_runs}
-use Rattle.map_free.specs.Look.{Table, here, held_left, held_right, held_either}
+use Rattle.map_free.specs.Look.{Table, here}
 
--- a byte lies in a range of a table where it lies in a row
-held_row : (k : ℕ) (t : List ℕ) (n y : ℕ) → Holds (held k (ranges_in t n) y) → (i : ℕ) × (i < n) × Holds (here k (row_at t i) y)
-unfolding ranges_in
-held_row k t zero y h = absurd (omega arith)
-held_row k t (suc n) y h =
-    elim (held_either k (ranges_in t n) (row_at t n) y h) [
-      | inl x ↦ let r = held_row k t n y x in (r.0, omega (arith, r.1), r.2)
-      | inr x ↦ (n, omega arith, x)
-    ]
+-- a byte lies in some range where some range passes, and all end where none fails
+any_held : (k : ℕ) (rs : List Range) (y : ℕ) → test (held k rs y) ≡ list_any (λ r. test (here k r y)) rs
+unfolding test
+any_held k [] y = refl
+any_held k (r ∷ rs) y = rw (any_held k rs y) refl
 
-row_held : (k : ℕ) (t : List ℕ) (n y i : ℕ) → i < n → Holds (here k (row_at t i) y) → Holds (held k (ranges_in t n) y)
-unfolding ranges_in
-row_held k t zero y i l h = absurd (omega arith)
-row_held k t (suc n) y i l h =
-    elim (dec_lt i n) [
-      | yes g ↦ held_left k (ranges_in t n) (row_at t n) y (row_held k t n y i g h)
-      | no g ↦ let e : i ≡ n = omega arith in held_right k (ranges_in t n) (row_at t n) y (rw e at h)
-    ]
+none_fails : (rs : List Range) → test (all_end rs) ≡ not (list_any (λ r. not (test (ends r))) rs)
+unfolding test
+none_fails [] = refl
+none_fails (r ∷ rs) = rw (none_fails rs) (go (test (ends r)) (list_any (λ r. not (test (ends r))) rs))
+  where
+    go : (a b : Bool) → a && not b ≡ not (not a || b)
+    go true b = refl
+    go false b = refl
 
-all_rows : (t : List ℕ) (n : ℕ) → ((i : ℕ) → i < n → Holds (ends (row_at t i))) → Holds (all_end (ranges_in t n))
-unfolding ranges_in
-all_rows t zero h = omega arith
-all_rows t (suc n) h =
-    all_append (ranges_in t n) (row_at t n ∷ []) (all_rows t n (λ i l. h i (omega arith))) (h n (omega arith), omega arith)
+module _ (rs us : List Range) (same : IsPermutation rs us) where
+  held_same : (k y : ℕ) → test (held k rs y) ≡ test (held k us y)
+  held_same k y = any_held k rs y ∙ list_any-IsPermutation (λ r. test (here k r y)) rs us same ∙ sym (any_held k us y)
 
-module _ (t : List ℕ) (n : ℕ) (u : List ℕ) (o : Orders t n u) where
-  held_there : (k y : ℕ) → Holds (held k (ranges_in t n) y) → Holds (held k (ranges_in u n) y)
-  held_there k y h =
-      let r = held_row k t n y h in
-      let m = o.there r.0 r.1 in
-      row_held k u n y m.0 m.1 (subst (λ (q : Range). Holds (here k q y)) (sym m.2) r.2)
+  held_there : (k y : ℕ) → Holds (held k rs y) → Holds (held k us y)
+  held_there k y h = holds (held k us y) (sym (held_same k y) ∙ passes (held k rs y) h)
 
-  held_back : (k y : ℕ) → Holds (held k (ranges_in u n) y) → Holds (held k (ranges_in t n) y)
-  held_back k y h =
-      let r = held_row k u n y h in
-      let m = o.back r.0 r.1 in
-      row_held k t n y m.0 m.1 (subst (λ (q : Range). Holds (here k q y)) (sym m.2) r.2)
+  held_back : (k y : ℕ) → Holds (held k us y) → Holds (held k rs y)
+  held_back k y h = holds (held k rs y) (held_same k y ∙ passes (held k us y) h)
 
-  all_there : Holds (all_end (ranges_in t n)) → Holds (all_end (ranges_in u n))
-  all_there fit = all_rows u n (λ i l. let m = o.back i l in subst (λ (q : Range). Holds (ends q)) m.2 (row_ends t n m.0 fit m.1))
+  all_there : Holds (all_end rs) → Holds (all_end us)
+  all_there fit =
+      holds (all_end us)
+      (none_fails us
+      ∙ (rw (list_any-IsPermutation (λ r. not (test (ends r))) rs us same) at (sym (none_fails rs) ∙ passes (all_end rs) fit)))
 
 -- what has the same bytes has the same runs
 runs_same : (F G : ℕ → Type 0) → ((y : ℕ) → F y → G y) → ((y : ℕ) → G y → F y) → (l : List Span) (at : ℕ) → Runs F at l → Runs G at l
@@ -69,23 +59,29 @@ runs_same F G to from (s ∷ l) at r = (
   runs_same F G to from l (s.last + 1) r.1,
 )
 
-module _ {xs : List ℕ} {g : Gathered} {u : List ℕ} (w : Collects xs g u) (ok : g.number ≡ 0) where
-  fits : Holds (all_end (ranges_in u g.count))
-  fits = all_there w.table g.count u (w.ordered ok) (rw (w.gathered.table_is ok) (w.gathered.fit ok))
+module _ {xs : List ℕ} {n : ℕ} {u : List Range} (w : Collected xs n u) where
+  abbrev rs : List Range
+  rs = take n w.table
 
-  pub table_good : length u ≡ 384 → Table u g.count
-  table_good size = record { sized = size; few = w.gathered.few ok; fit = fits; ascend = (w.ordered ok).ascend }
+  abbrev us : List Range
+  us = take n u
 
-  pub map_same : memory_map (ranges_in u g.count) ≡ memory_map (ranges xs)
+  fit : Holds (all_end rs)
+  fit = rw w.gathered.table_is w.gathered.fit
+
+  fits : Holds (all_end us)
+  fits = all_there rs us w.same fit
+
+  pub table_good : n ≤ length u → Table (take n u)
+  table_good room = record { few = omega (arith, length-take-le n u room, w.gathered.few); fit = fits; ascend = w.ascend }
+
+  pub map_same : memory_map (take n u) ≡ memory_map (ranges xs)
   unfolding memory_map
   map_same =
-      let o = w.ordered ok in
-      let t = w.table in
-      let n = g.count in
-      rw (← w.gathered.table_is ok)
-      (runs_one (Free (ranges_in t n)) 0 (memory_map (ranges_in u n)) (memory_map (ranges_in t n))
-      (runs_same (Free (ranges_in u n)) (Free (ranges_in t n))
-      (λ y f. (held_back t n u o 0 y f.0, λ h. f.1 (held_there t n u o 5 y h)))
-      (λ y f. (held_there t n u o 0 y f.0, λ h. f.1 (held_back t n u o 5 y h)))
-      (memory_map (ranges_in u n)) 0 (map_runs (ranges_in u n) fits 0 (inl refl)))
-      (map_runs (ranges_in t n) (rw (w.gathered.table_is ok) (w.gathered.fit ok)) 0 (inl refl)))
+      rw (← w.gathered.table_is)
+      (runs_one (Free rs) 0 (memory_map us) (memory_map rs)
+      (runs_same (Free us) (Free rs)
+      (λ y f. (held_back rs us w.same 0 y f.0, λ h. f.1 (held_there rs us w.same 5 y h)))
+      (λ y f. (held_there rs us w.same 0 y f.0, λ h. f.1 (held_back rs us w.same 5 y h)))
+      (memory_map us) 0 (map_runs us fits 0 (inl refl)))
+      (map_runs rs fit 0 (inl refl)))

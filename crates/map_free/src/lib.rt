@@ -1,38 +1,38 @@
-// Request #111: the runs of free bytes, found one after the other in a table whose rows ascend: each row is passed once.
+// Request #111: the runs of free bytes, found one after the other in rows that ascend: each row is passed once.
 #![tactic(auto)]
 
-ghost use Rattle.std.specs.Prelude.{true, false, ◌≡◌, ◌⊎◌, ◌+◌, ◌^◌, ◌≤◌, ◌<◌};
-ghost use Rattle.map_ranges.specs.Ranges.{range};
-ghost use Rattle.map_ranges.specs.Table.{row_at, ranges_in};
-ghost use Rattle.map_free.specs.Look.{reach_of, Table, Swept, TakesRow, Advances, Limits, Covered, Stretches, Extending, Skips, Extends, Nexts};
+ghost use Rattle.std.specs.Prelude.{◌≡◌, ◌+◌, ◌^◌, ◌≤◌, ◌<◌, Some, None, MatchOption, length};
+ghost use Rattle.map_ranges.specs.Table.{row_at};
+ghost use Rattle.map_ranges.specs.Ranges.{ends};
+ghost use Rattle.facts.specs.Fact.{Holds};
+ghost use Rattle.map_free.specs.Look.{reach_of, further, Upto, Table, Swept, TakesRow, Advances, Limits, Ahead, Stretches, NoneFrom, Extending, Skips, Extends, Nexts};
 
-// How many rows are passed; whether there is memory among them, and its highest byte; the same of reserved ranges.
+use map_ranges::Range;
+
+// How many rows are passed, and the highest byte of the memory among them and of the reserved ranges, if there are any.
 #[derive(Clone, Copy)]
 pub struct Reach {
     pub i: usize,
-    pub memory: bool,
-    pub reach: u64,
-    pub reserved: bool,
-    pub hold: u64,
+    pub memory: Option<u64>,
+    pub reserved: Option<u64>,
 }
 
-// Whether a byte is free, and up to which byte all are as it is.
+// Up to which byte all are free, or none is.
 #[derive(Clone, Copy)]
-pub struct Stretch {
-    pub free: bool,
-    pub last: u64,
+pub enum Stretch {
+    AllFree(u64),
+    NoneFree(u64),
 }
 
-// A run of free bytes, if there is one, and how far the sweep has come.
+// A run of free bytes, and how far the sweep has come.
 #[derive(Clone, Copy)]
 pub struct Found {
-    pub found: bool,
     pub first: u64,
     pub last: u64,
     pub sweep: Reach,
 }
 
-// Where a run ends.
+// Where a run ends, and how far the sweep has come.
 #[derive(Clone, Copy)]
 pub struct Ended {
     pub last: u64,
@@ -41,213 +41,150 @@ pub struct Ended {
 
 // Before any row.
 pub fn start() -> Reach
-    ensures { result ≡ reach_of 0 false 0 false 0 }
+    ensures { result ≡ reach_of 0 None None }
 {
     Reach {
         i: 0,
-        memory: false,
-        reach: 0,
-        reserved: false,
-        hold: 0,
+        memory: None,
+        reserved: None,
     }
 }
 
-fn lower(a: u64, b: u64) -> u64
-    ensures { (result ≤ a) × (result ≤ b) × ((a ≤ result) ⊎ (b ≤ result)) }
+// The higher of a byte and the highest so far.
+fn further(reach: Option<u64>, last: u64) -> u64
+    ensures { result ≡ further reach last }
 {
-    if a <= b {
-        return a;
+    match reach {
+        Some(far) => far.max(last),
+        None => last,
     }
-    b
-}
-
-// The higher of two, where the first counts.
-fn further(b: bool, a: u64, c: u64) -> u64
-    ensures { (c ≤ result) × (b ≡ true → a ≤ result) × ((result ≤ c) ⊎ ((b ≡ true) × (result ≤ a))) }
-{
-    if !b {
-        return c;
-    }
-    if a <= c {
-        return c;
-    }
-    a
 }
 
 // One row more.
-fn take_row(s: Reach, code: u64, start: u64, size: u64) -> Reach
-    requires { (start + size ≤ 2 ^ 64) × (s.i < 128) }
-    ensures { TakesRow s (range code start size) result }
+fn take_row(s: Reach, r: Range) -> Reach
+    requires { Holds (ends r) × (s.i < 128) }
+    ensures { TakesRow s r result }
 {
-    if size == 0 {
-        return Reach {
-            i: s.i + 1,
-            memory: s.memory,
-            reach: s.reach,
+    let i = s.i + 1;
+    if r.size == 0 {
+        return Reach { i, ..s };
+    }
+    let last = r.start + (r.size - 1);
+    match r.code {
+        map_ranges::MEMORY => Reach {
+            i,
+            memory: Some(further(s.memory, last)),
             reserved: s.reserved,
-            hold: s.hold,
-        };
-    }
-    let last = start + (size - 1);
-    if code == 0 {
-        return Reach {
-            i: s.i + 1,
-            memory: true,
-            reach: further(s.memory, s.reach, last),
-            reserved: s.reserved,
-            hold: s.hold,
-        };
-    }
-    if code == 5 {
-        return Reach {
-            i: s.i + 1,
+        },
+        map_ranges::RESERVED => Reach {
+            i,
             memory: s.memory,
-            reach: s.reach,
-            reserved: true,
-            hold: further(s.reserved, s.hold, last),
-        };
-    }
-    Reach {
-        i: s.i + 1,
-        memory: s.memory,
-        reach: s.reach,
-        reserved: s.reserved,
-        hold: s.hold,
+            reserved: Some(further(s.reserved, last)),
+        },
+        _ => Reach { i, ..s },
     }
 }
 
 // All rows that start at x or below it.
-fn advance(table: &[u64], n: usize, from: Reach, x: u64) -> Reach
-    requires { Table table.now n × Swept table.now n x from }
-    ensures { Advances table.now n x result }
+fn advance(rows: &[Range], from: Reach, x: u64) -> Reach
+    requires { Table rows.now × Swept rows.now x from }
+    ensures { Advances rows.now x result }
 {
     let mut s = from;
-    loop {
-        let i = s.i;
-        if n <= i {
-            return s;
-        }
-        if x < table[3 * i + 1] {
-            return s;
-        }
-        s = take_row(s, table[3 * i], table[3 * i + 1], table[3 * i + 2]);
+    while s.i < rows.len() && rows[s.i].start <= x {
+        s = take_row(s, rows[s.i]);
     }
+    s
 }
 
 // The last byte below all rows from i on.
-fn limit(table: &[u64], n: usize, i: usize) -> u64
-    requires { Table table.now n × (i < n → 0 < (row_at table.now i).start) }
-    ensures { Limits table.now n i result }
+fn limit(rows: &[Range], i: usize) -> u64
+    requires { i < length rows.now → 0 < (row_at rows.now i).start }
+    ensures { Limits rows.now i result }
 {
-    if n <= i {
-        return 18446744073709551615;
+    if rows.len() <= i {
+        return u64::MAX;
     }
-    table[3 * i + 1] - 1
+    rows[i].start - 1
 }
 
-// Whether the byte at x is reached.
-fn covered(b: bool, last: u64, x: u64) -> bool
-    ensures { Covered b last x result }
+// The highest byte reached, if it isn't below x.
+fn ahead(reach: Option<u64>, x: u64) -> Option<u64>
+    ensures { Ahead reach x result }
 {
-    if !b {
-        return false;
+    match reach {
+        Some(last) if x <= last => Some(last),
+        _ => None,
     }
-    if last < x {
-        return false;
-    }
-    true
 }
 
 // From x on, how far all bytes are free or none is.
-fn stretch_from(table: &[u64], n: usize, s: Reach, x: u64) -> Stretch
-    requires { Table table.now n × Advances table.now n x s }
-    ensures { Stretches (ranges_in table.now n) x result }
+fn stretch_from(rows: &[Range], s: Reach, x: u64) -> Stretch
+    requires { Table rows.now × Advances rows.now x s }
+    ensures { Stretches rows.now x result }
 {
-    if covered(s.reserved, s.hold, x) {
-        return Stretch {
-            free: false,
-            last: s.hold,
-        };
+    if let Some(hold) = ahead(s.reserved, x) {
+        return Stretch::NoneFree(hold);
     }
-    let end = limit(table, n, s.i);
-    if covered(s.memory, s.reach, x) {
-        return Stretch {
-            free: true,
-            last: lower(s.reach, end),
-        };
-    }
-    Stretch {
-        free: false,
-        last: end,
+    let end = limit(rows, s.i);
+    match ahead(s.memory, x) {
+        Some(reach) => Stretch::AllFree(reach.min(end)),
+        None => Stretch::NoneFree(end),
     }
 }
 
-// The first free byte from `start` on.
-fn skip(table: &[u64], n: usize, from: Reach, start: u64) -> Found
-    requires { Table table.now n × Swept table.now n start from }
-    ensures { Skips (ranges_in table.now n) start result × (result.found ≡ true → Swept table.now n result.first result.sweep) }
+// The first free byte from `start` on, and up to where all are free from there.
+fn skip(rows: &[Range], from: Reach, start: u64) -> Option<Found>
+    requires { Table rows.now × Swept rows.now start from }
+    ensures { MatchOption result (NoneFrom rows.now start) (λ f. Skips rows.now start f × Swept rows.now f.first f.sweep) }
 {
     let mut s = from;
     let mut at = start;
     loop {
-        s = advance(table, n, s, at);
-        let t = stretch_from(table, n, s, at);
-        if t.free {
-            return Found {
-                found: true,
-                first: at,
-                last: t.last,
-                sweep: s,
-            };
+        s = advance(rows, s, at);
+        match stretch_from(rows, s, at) {
+            Stretch::AllFree(last) => {
+                return Some(Found {
+                    first: at,
+                    last,
+                    sweep: s,
+                });
+            }
+            Stretch::NoneFree(u64::MAX) => return None,
+            Stretch::NoneFree(last) => at = last + 1,
         }
-        if t.last == 18446744073709551615 {
-            return Found {
-                found: false,
-                first: 0,
-                last: 0,
-                sweep: s,
-            };
-        }
-        at = t.last + 1;
     }
 }
 
 // The last byte of the run that has `first`, where all are free from there up to `known`.
-fn extend(table: &[u64], n: usize, from: Reach, first: u64, known: u64) -> Ended
-    requires { Table table.now n × Swept table.now n first from × Extending (ranges_in table.now n) first known }
-    ensures { Extends (ranges_in table.now n) first result.last × Swept table.now n (result.last + 1) result.sweep }
+fn extend(rows: &[Range], from: Reach, first: u64, known: u64) -> Ended
+    requires { Table rows.now × Swept rows.now first from × Extending rows.now first known }
+    ensures { Extends rows.now first result.last × Swept rows.now (result.last + 1) result.sweep }
 {
     let mut s = from;
     let mut last = known;
     loop {
-        if last == 18446744073709551615 {
+        if last == u64::MAX {
             return Ended { last, sweep: s };
         }
-        s = advance(table, n, s, last + 1);
-        let t = stretch_from(table, n, s, last + 1);
-        if !t.free {
-            return Ended { last, sweep: s };
+        s = advance(rows, s, last + 1);
+        match stretch_from(rows, s, last + 1) {
+            Stretch::AllFree(more) => last = more,
+            Stretch::NoneFree(_) => return Ended { last, sweep: s },
         }
-        last = t.last;
     }
 }
 
 // The first run of free bytes from `at` on, where none goes through `at`.
-pub fn next_span(table: &[u64], n: usize, from: Reach, at: u64) -> Found
-    requires { Table table.now n × Swept table.now n at from }
-    ensures { Nexts (ranges_in table.now n) at result × (result.found ≡ true → Swept table.now n (result.last + 1) result.sweep) }
+pub fn next_span(rows: &[Range], from: Reach, at: u64) -> Option<Found>
+    requires { Table rows.now × Swept rows.now at from }
+    ensures { MatchOption result (NoneFrom rows.now at) (λ f. Nexts rows.now at f × Swept rows.now (f.last + 1) f.sweep) }
 {
-    let s = skip(table, n, from, at);
-    if !s.found {
-        return s;
-    }
-    let sweep = s.sweep;
-    let e = extend(table, n, sweep, s.first, s.last);
-    let past = e.sweep;
-    Found {
-        found: true,
-        first: s.first,
+    let f = skip(rows, from, at)?;
+    let e = extend(rows, f.sweep, f.first, f.last);
+    Some(Found {
+        first: f.first,
         last: e.last,
-        sweep: past,
-    }
+        sweep: e.sweep,
+    })
 }

@@ -9,7 +9,8 @@ use Rattle.words.specs.Number.{number}
 use Rattle.words.specs.Put.{digit}
 use Rattle.handoff_step.specs.Step.{from_resource, from_guid, from_end, from_later, from_first, from_head, step_rules, stepped}
 use Rattle.handoff_list.specs.Blocks.{turn, within, blocks_from, blocks}
-use Rattle.map_ranges.specs.Ranges.{Range, range, ranges_of, ranges, after_ranges}
+use Rattle.map_ranges.specs.declared.Range.{Range}
+use Rattle.map_ranges.specs.Ranges.{range, ranges_of, ranges, after_ranges}
 use Rattle.map_free.specs.Free.{span, lowest, next_free, next_taken, spans_from, map_from, memory_map}
 use Rattle.map_list.specs.Map.{refused_map, mapping}
 use Rattle.map_place.specs.Place.{refused_place, placed_at, lowest_base, place_rules, placing}

@@ -13,7 +13,8 @@ use Rattle.words.specs.Le.{le}
 use Rattle.words.specs.Put.{put_all}
 use Rattle.words.specs.PutLaws.{le_put_all, put_all_above, length_put_all}
 use Rattle.handoff_list.specs.Blocks.{blocks}
-use Rattle.map_ranges.specs.Ranges.{Range, ranges, all_end, after_ranges}
+use Rattle.map_ranges.specs.declared.Range.{Range}
+use Rattle.map_ranges.specs.Ranges.{ranges, all_end, after_ranges}
 use Rattle.map_ranges.specs.RangesLaws.{after_ranges_lem, list_refused, end_refused, many_refused}
 use Rattle.map_free.specs.Free.{Free, Span, span, map_from, memory_map}
 use Rattle.map_free.specs.Runs.{Run, Runs, runs_one}

@@ -12,7 +12,8 @@ use Rattle.facts.specs.Rules.{answer, run}
 use Rattle.facts.specs.RulesLaws.{by_test}
 use Rattle.header.specs.Base.{legal_base}
 use Rattle.handoff_list.specs.Blocks.{blocks}
-use Rattle.map_ranges.specs.Ranges.{Range, ranges, all_end, after_ranges}
+use Rattle.map_ranges.specs.declared.Range.{Range}
+use Rattle.map_ranges.specs.Ranges.{ranges, all_end, after_ranges}
 use Rattle.map_free.specs.Free.{Free, Span, span, map_from, memory_map}
 use Rattle.map_free.specs.Runs.{Run, Runs}
 use Rattle.map_free.specs.FreeLaws.{decide, map_runs}

@@ -1,25 +1,23 @@
 -- The walk that writes the map, and the call case by case.
 -- Assumes nothing.
-use Rattle.std.specs.Prelude.{ℕ, zero, suc, ◌+◌, ◌*◌, ◌^◌, ◌≤◌, ◌<◌, List, [], ◌∷◌, ◌≡◌, refl}
-use Rattle.std.proofs.Common.{inl, ap, ◌∙◌}
+use Rattle.std.specs.Prelude.{ℕ, ◌+◌, ◌*◌, ◌≤◌, ◌<◌, List, ◌∷◌, ◌≡◌, refl}
+use Rattle.std.proofs.Common.{inl, ◌∙◌}
 use Rattle.std.proofs.Math.Logic.{inr}
 use Rattle.std.proofs.Math.Path.{sym}
 use native.Mathlib.Omega.{arith}
 use Rattle.std.proofs.Math.ListN.{length}
-use Rattle.facts.specs.Fact.{◌≤?◌, ◌≡?◌, test, Holds}
+use Rattle.facts.specs.Fact.{◌≤?◌, ◌≡?◌, Holds}
 use Rattle.facts.specs.FactLaws.{passes, fails}
-use Rattle.facts.specs.Rules.{answer, rule, run}
+use Rattle.facts.specs.Rules.{answer, run}
 use Rattle.words.specs.Put.{put, put_all}
 use Rattle.words.specs.PutLaws.{length_put}
-use Rattle.map_ranges.specs.declared.Gathered.{Gathered}
-use Rattle.map_ranges.specs.Ranges.{Range, ranges, all_end, after_ranges, ranges_number}
-use Rattle.map_ranges.specs.Table.{ranges_in, length_ranges_in}
+use Rattle.map_ranges.specs.declared.Range.{Range}
+use Rattle.map_ranges.specs.Ranges.{ranges, all_end}
 use Rattle.map_ranges.specs.RangesLaws.{after_ranges_lem, after_refused}
-use Rattle.map_ranges.specs.Gathering.{Gathers}
-use Rattle.map_free.specs.Free.{Free, Span, span, map_from, memory_map}
+use Rattle.map_ranges.specs.Gathering.{Gathered, Refused}
+use Rattle.map_free.specs.Free.{Free, Span, map_from, memory_map}
 use Rattle.map_free.specs.Runs.{Run}
 use Rattle.map_free.specs.FreeLaws.{Clean, map_next, map_none, map_few}
-use Rattle.map_free.specs.Look.{Table}
 use Rattle.map_list.specs.declared.Mapped.{Mapped}
 use Rattle.map_list.specs.Map.{refused_map, mapped_to, mapping, numbers, map_in, Maps}
 
@@ -77,22 +75,22 @@ module _ (xs out : List ℕ) where
       let e = fails (2048 ≤? length out) (λ z. omega arith) in
       (rw e, rw (e, fails (100 ≡? 0) (λ z. absurd (omega arith))))
 
-  module _ (room : 2048 ≤ length out) (g : Gathered) (t : List ℕ) (w : Gathers xs g t) where
-    pub maps_refused : (g.number ≡ 0 → ⊥) → Maps xs out (refused_map g.number 0) out
+  module _ (room : 2048 ≤ length out) where
+    pub maps_refused : {k : ℕ} → Refused xs k → Maps xs out (refused_map k 0) out
     unfolding mapping map_in run
-    maps_refused isnt =
-        let e : mapping xs (length out) ≡ refused_map g.number 0 =
+    maps_refused {k} w =
+        let e : mapping xs (length out) ≡ refused_map k 0 =
         rw (passes (2048 ≤? length out) room, w.number_is)
-        (after_refused refused_map xs (λ rs. answer (mapped_to (memory_map rs))) (λ z. isnt (w.number_is ∙ z))) in
-        (sym e, rw (e, fails (g.number ≡? 0) isnt))
+        (after_refused refused_map xs (λ rs. answer (mapped_to (memory_map rs))) (λ z. w.isnt (w.number_is ∙ z))) in
+        (sym e, rw (e, fails (k ≡? 0) w.isnt))
 
-    pub maps_written : g.number ≡ 0 → (u : List ℕ) → memory_map (ranges_in u g.count) ≡ memory_map (ranges xs) → (count : ℕ) (after : List ℕ)
-        → Written (ranges_in u g.count) out count after → Maps xs out (record { number = 0; count = count }) after
+    pub maps_written : {n : ℕ} {t : List Range} → Gathered xs n t → (rows : List Range) → memory_map rows ≡ memory_map (ranges xs)
+        → (count : ℕ) (after : List ℕ) → Written rows out count after → Maps xs out (record { number = 0; count = count }) after
     unfolding mapping map_in run
-    maps_written ok u same count after k =
+    maps_written w rows same count after k =
         let e : mapping xs (length out) ≡ mapped_to (memory_map (ranges xs)) =
         rw (passes (2048 ≤? length out) room)
-        (after_ranges_lem refused_map xs (λ rs. answer (mapped_to (memory_map rs))) (w.goes_on ok) (w.fit ok) (omega (arith, w.count_is ok, w.few ok))) in
+        (after_ranges_lem refused_map xs (λ rs. answer (mapped_to (memory_map rs))) w.goes_on w.fit (omega (arith, w.count_is, w.few))) in
         let c : count ≡ length (memory_map (ranges xs)) = rw same at k.counted in
         (rw c (sym e), rw (e, passes (0 ≡? 0) refl) (rw same at k.written))
 

@@ -3,12 +3,13 @@
 
 ghost use Rattle.std.specs.Prelude.{◌≡◌, ◌+◌, ◌*◌, ◌≤◌, length};
 ghost use Rattle.words.specs.Put.{put};
-ghost use Rattle.map_ranges.specs.Table.{ranges_in};
 ghost use Rattle.map_free.specs.Look.{Table};
 ghost use Rattle.map_list.specs.Map.{refused_map, Maps};
 ghost use Rattle.map_list.specs.MapLaws.{Written};
 
-// Number 0 and how many runs of free bytes there are, or a refusal's number and 0.
+use map_ranges::Range;
+
+// Number 0 and how many runs of free bytes there are, or a refusal's number and 0. `pajurenda_map` writes it to C field by field.
 #[derive(Clone, Copy)]
 pub struct Mapped {
     pub number: u32,
@@ -31,26 +32,23 @@ fn put_span(out: &mut [u8], i: usize, first: u64, last: u64)
 }
 
 // Each run of free bytes by its first and its last byte, and how many there are.
-fn write_spans(table: &[u64], n: usize, out: &mut [u8]) -> usize
-    requires { Table table.now n × (2048 ≤ length out.old) }
-    ensures { Written (ranges_in table.now n) out.old result out.new }
+fn write_spans(rows: &[Range], out: &mut [u8]) -> usize
+    requires { Table rows.now × (2048 ≤ length out.old) }
+    ensures { Written rows.now out.old result out.new }
 {
     let mut at = 0;
     let mut count = 0;
     let mut sweep = map_free::start();
-    loop {
-        let s = map_free::next_span(table, n, sweep, at);
-        if !s.found {
-            return count;
-        }
+    while let Some(s) = map_free::next_span(rows, sweep, at) {
         put_span(out, count, s.first, s.last);
         count += 1;
-        if s.last == 18446744073709551615 {
+        if s.last == u64::MAX {
             return count;
         }
         at = s.last + 1;
         sweep = s.sweep;
     }
+    count
 }
 
 // The memory map of a dump, whatever its bytes are; or a refusal that changes nothing.
@@ -60,13 +58,12 @@ pub fn map(dump: &[u8], out: &mut [u8]) -> Mapped
     if out.len() < 2048 {
         return refused(100);
     }
-    let mut table = [0u64; 384];
-    let g = map_order::collect(dump, &mut table);
-    if g.number != 0 {
-        return refused(g.number);
-    }
-    Mapped {
-        number: 0,
-        count: write_spans(&table, g.count, out),
+    let mut table = [map_ranges::EMPTY; 128];
+    match map_order::collect(dump, &mut table) {
+        Err(number) => refused(number),
+        Ok(n) => Mapped {
+            number: 0,
+            count: write_spans(&table[..n], out),
+        },
     }
 }

@@ -4,7 +4,7 @@ use Rattle.std.specs.Prelude.{ℕ, ◌+◌, ◌*◌, ◌/◌, ◌^◌, cond, Lis
 use Rattle.facts.specs.Fact.{Fact, ◌≤?◌, ◌and◌, test}
 use Rattle.facts.specs.Rules.{Rules, answer, rule, run}
 use Rattle.header.specs.Base.{legal_base}
-use Rattle.map_ranges.specs.Ranges.{Range, after_ranges}
+use Rattle.map_ranges.specs.Ranges.{after_ranges}
 use Rattle.map_free.specs.Free.{Span, memory_map}
 use Rattle.map_place.specs.declared.Placed.{Placed}
 

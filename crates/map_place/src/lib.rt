@@ -2,13 +2,14 @@
 #![tactic(auto)]
 
 ghost use Rattle.std.specs.Prelude.{◌≡◌, ◌≤◌, ◌<◌};
-ghost use Rattle.map_ranges.specs.Table.{ranges_in};
-ghost use Rattle.map_free.specs.Free.{span, memory_map};
+ghost use Rattle.map_free.specs.Free.{span};
 ghost use Rattle.map_free.specs.Look.{Table};
-ghost use Rattle.map_place.specs.Place.{lowest_base, refused_place, Places};
-ghost use Rattle.map_place.specs.PlaceLaws.{base_in};
+ghost use Rattle.map_place.specs.Place.{refused_place, Places};
+ghost use Rattle.map_place.specs.PlaceLaws.{BaseIn, Finds};
 
-// Number 0 and the base, or a refusal's number and 0.
+use map_ranges::Range;
+
+// Number 0 and the base, or a refusal's number and 0. `pajurenda_map` writes it to C field by field.
 #[derive(Clone, Copy)]
 pub struct Placed {
     pub number: u32,
@@ -21,66 +22,61 @@ fn refused(number: u32) -> Placed
     Placed { number, base: 0 }
 }
 
-// The lowest base for `size` bytes in one run, 2^32 where there is none.
-fn base_in(first: u64, last: u64, size: u64) -> u64
+// The lowest base for `size` bytes in one run.
+fn base_in(first: u64, last: u64, size: u64) -> Option<u64>
     requires { (1 ≤ size) × (size ≤ 16777216) }
-    ensures { (result ≡ base_in size (span first last)) × (result ≤ 4294967296) }
+    ensures { BaseIn size (span first last) result }
 {
     if 4294967296 <= first {
-        return 4294967296;
+        return None;
     }
     let base = (first + 4095) / 4096 * 4096;
     if !header::legal(base, size as usize) {
-        return 4294967296;
+        return None;
     }
     if last < base + (size - 1) {
-        return 4294967296;
+        return None;
     }
-    base
+    Some(base)
 }
 
-// The lowest base in all free memory, 2^32 where there is none.
-fn find(table: &[u64], n: usize, size: u64) -> u64
-    requires { Table table.now n × (1 ≤ size) × (size ≤ 16777216) }
-    ensures { (result ≡ lowest_base size (memory_map (ranges_in table.now n))) × (result ≤ 4294967296) }
+// The lowest base in all free memory.
+fn find(rows: &[Range], size: u64) -> Option<u64>
+    requires { Table rows.now × (1 ≤ size) × (size ≤ 16777216) }
+    ensures { Finds rows.now size result }
 {
     let mut at = 0;
     let mut sweep = map_free::start();
-    loop {
-        let s = map_free::next_span(table, n, sweep, at);
-        if !s.found {
-            return 4294967296;
+    while let Some(s) = map_free::next_span(rows, sweep, at) {
+        if let Some(base) = base_in(s.first, s.last, size) {
+            return Some(base);
         }
-        let base = base_in(s.first, s.last, size);
-        if base != 4294967296 {
-            return base;
-        }
-        if s.last == 18446744073709551615 {
-            return 4294967296;
+        if s.last == u64::MAX {
+            return None;
         }
         at = s.last + 1;
         sweep = s.sweep;
     }
+    None
 }
 
 // The lowest legal base at which an image of `size` bytes lies whole in one run of free bytes of the dump, whatever its bytes are.
 pub fn place(dump: &[u8], size: u64) -> Placed
     ensures { Places dump.now size result }
 {
-    let mut table = [0u64; 384];
-    let g = map_order::collect(dump, &mut table);
-    if g.number != 0 {
-        return refused(g.number);
-    }
+    let mut table = [map_ranges::EMPTY; 128];
+    let n = match map_order::collect(dump, &mut table) {
+        Ok(n) => n,
+        Err(number) => return refused(number),
+    };
     if size == 0 {
         return refused(36);
     }
     if 16777216 < size {
         return refused(36);
     }
-    let base = find(&table, g.count, size);
-    if base == 4294967296 {
-        return refused(37);
+    match find(&table[..n], size) {
+        Some(base) => Placed { number: 0, base },
+        None => refused(37),
     }
-    Placed { number: 0, base }
 }

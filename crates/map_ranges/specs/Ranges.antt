@@ -7,12 +7,7 @@ use Rattle.handoff_step.specs.declared.Block.{Block}
 use Rattle.handoff_step.specs.declared.Kind.{Kind}
 use Rattle.handoff_step.specs.declared.Kind.TheVariants.{Nothing, Unknown, Handoff, Resource, Guid, End}
 use Rattle.handoff_list.specs.Blocks.{blocks}
-
--- so many bytes from `start` on, of a resource type
-pub record Range : Type 0 where
-  pub code : ℕ
-  pub start : ℕ
-  pub size : ℕ
+use Rattle.map_ranges.specs.declared.Range.{Range}
 
 abbrev pub range : ℕ → ℕ → ℕ → Range
 range code start size = record { code = code; start = start; size = size }

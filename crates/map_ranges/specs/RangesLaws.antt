@@ -1,18 +1,18 @@
 -- The range of the block at a cursor, by the block's own numbers; and what the refusals come to.
 -- Assumes nothing.
-use Rattle.std.specs.Prelude.{ℕ, ◌+◌, ◌≤◌, cond, List, [], ◌∷◌, ◌++◌, ◌≡◌, refl, length}
-use Rattle.std.proofs.Common.{inl, inr, sym, ◌∙◌, arith}
+use Rattle.std.specs.Prelude.{ℕ, ◌+◌, ◌≤◌, cond, List, [], ◌∷◌, ◌≡◌, refl, length}
+use Rattle.std.proofs.Common.{inl, inr, arith}
 use Rattle.facts.specs.Fact.{Fact, ◌≤?◌, ◌≡?◌, ◌and◌, test, Holds}
 use Rattle.facts.specs.FactLaws.{passes, fails, same_test}
-use Rattle.facts.specs.Rules.{Rules, answer, run}
+use Rattle.facts.specs.Rules.{Rules, run}
 use Rattle.facts.specs.RulesLaws.{Passed, by_test}
 use Rattle.words.specs.Le.{le}
 use Rattle.handoff_step.specs.declared.Stepped.{Stepped}
-use Rattle.handoff_step.specs.Step.{type_at, length_at, from_resource, from_guid, from_end, from_later, from_first, from_head, step_rules, stepped}
+use Rattle.handoff_step.specs.Step.{type_at, from_resource, from_guid, from_end, from_later, from_first, from_head, step_rules, stepped}
 use Rattle.handoff_step.specs.StepLaws.{all_passed, shows}
-use Rattle.handoff_list.specs.Blocks.{blocks, blocks_from}
-use Rattle.handoff_list.specs.BlocksLaws.{blocks_refused, blocks_end, blocks_next}
-use Rattle.map_ranges.specs.Ranges.{Range, range, matters, range_of, ranges_of, ranges, all_end, after_ranges, ranges_number}
+use Rattle.handoff_list.specs.Blocks.{blocks}
+use Rattle.map_ranges.specs.declared.Range.{Range}
+use Rattle.map_ranges.specs.Ranges.{range, matters, range_of, ranges, all_end, after_ranges, ranges_number}
 
 -- whether the block at `at`, which stands, is a resource of a type that counts
 abbrev pub is_range : List ℕ → ℕ → Fact

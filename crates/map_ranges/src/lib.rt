@@ -1,142 +1,112 @@
 // Request #111: the ranges of memory that a hand-off list names, gathered into a table in one walk, and the refusals 30 to 35.
 #![tactic(auto)]
 
-ghost use Rattle.std.specs.Prelude.{◌≡◌, ◌+◌, ◌*◌, ◌^◌, ◌≤◌, ◌<◌, length};
-ghost use Rattle.facts.specs.Fact.{Tells, Holds};
+ghost use Rattle.std.specs.Prelude.{◌≡◌, ◌+◌, ◌^◌, ◌≤◌, ◌<◌, MatchOption, [], ◌∷◌};
+ghost use Rattle.facts.specs.Fact.{Tells};
 ghost use Rattle.handoff_step.specs.Step.{type_at};
-ghost use Rattle.map_ranges.specs.Ranges.{range, ends};
-ghost use Rattle.map_ranges.specs.Table.{stored};
-ghost use Rattle.map_ranges.specs.RangesLaws.{is_range, range_here, Standing};
-ghost use Rattle.map_ranges.specs.Gathering.{Gathers, Takes, refused_ranges, Finishes};
+ghost use Rattle.map_ranges.specs.Ranges.{ends};
+ghost use Rattle.map_ranges.specs.RangesLaws.{range_here, Standing};
+ghost use Rattle.map_ranges.specs.Gathering.{Gathers, Takes, Finishes};
 
-// The number of 30 to 35, or 0 and how many ranges there are.
+// So many bytes from `start` on, of a resource type.
 #[derive(Clone, Copy)]
-pub struct Gathered {
-    pub number: u32,
-    pub count: usize,
+pub struct Range {
+    pub code: u32,
+    pub start: u64,
+    pub size: u64,
 }
 
-// 34 once a range ends above 2^64, else 0; and how many ranges are counted.
-#[derive(Clone, Copy)]
-pub struct Taken {
-    pub number: u32,
-    pub count: usize,
-}
+// The resource types that count, by the codes that a block has: the theorems of the map speak of these numbers.
+pub const MEMORY: u32 = 0;
 
-// Whether the block at `at` is a resource of a type that counts.
-fn is_range(dump: &[u8], at: usize, t: usize) -> bool
+pub const RESERVED: u32 = 5;
+
+// What stands in each row of a table before any range is gathered.
+pub const EMPTY: Range = Range {
+    code: MEMORY,
+    start: 0,
+    size: 0,
+};
+
+// The range of the block at `at`, if it is a resource of a type that counts.
+fn range_at(dump: &[u8], at: usize, t: usize) -> Option<Range>
     requires { Standing dump.now at × (t ≡ type_at dump.now at) }
-    ensures { Tells result (is_range dump.now at) }
+    ensures { MatchOption result (range_here dump.now at ≡ []) (λ r. range_here dump.now at ≡ r ∷ []) }
 {
     if t != 3 {
-        return false;
+        return None;
     }
-    let code = words::le32(dump, at + 24);
-    if code == 0 {
-        return true;
+    let code = words::le32(dump, at + 24) as u32;
+    if code != MEMORY && code != RESERVED {
+        return None;
     }
-    if code != 5 {
-        return false;
-    }
-    true
+    Some(Range {
+        code,
+        start: words::le64(dump, at + 32) as u64,
+        size: words::le64(dump, at + 40) as u64,
+    })
 }
 
 // 34: whether a range ends at 2^64 or below.
-fn range_ends(start: usize, size: usize) -> bool
-    ensures { Tells result (ends (range 0 start size)) }
+fn range_ends(r: Range) -> bool
+    ensures { Tells result (ends r) }
 {
-    if start == 0 {
-        return true;
-    }
-    if 18446744073709551615 - start + 1 < size {
-        return false;
-    }
-    true
+    r.start == 0 || r.size <= u64::MAX - r.start + 1
 }
 
-// 34 from the first range on that ends above 2^64.
-fn judge_end(number: u32, start: usize, size: usize) -> u32
-    ensures { (result ≡ 0 → (number ≡ 0) × Holds (ends (range 0 start size))) × (number ≡ 0 → Holds (ends (range 0 start size)) → result ≡ 0) }
-{
-    if !range_ends(start, size) {
-        return 34;
-    }
-    number
-}
-
-// Row i of the table.
-pub fn store(table: &mut [u64], i: usize, code: u64, start: u64, size: u64)
-    requires { (i < 128) × (length table.old ≡ 384) }
-    ensures { table.new ≡ stored table.old i code start size }
-{
-    table[3 * i] = code;
-    table[3 * i + 1] = start;
-    table[3 * i + 2] = size;
+// Whether all ranges so far end at 2^64 or below, and how many there are.
+#[derive(Clone, Copy)]
+pub struct Taken {
+    pub fit: bool,
+    pub count: usize,
 }
 
 // The range of the block at `at`, if it has one.
-fn take(dump: &[u8], at: usize, t: usize, table: &mut [u64], number: u32, count: usize) -> Taken
-    requires { Standing dump.now at × (t ≡ type_at dump.now at) × (count < 18446744073709551615) × (length table.old ≡ 384) }
-    ensures { Takes (range_here dump.now at) table.old number count result table.new }
+fn take(dump: &[u8], at: usize, t: usize, table: &mut [Range; 128], so_far: Taken) -> Taken
+    requires { Standing dump.now at × (t ≡ type_at dump.now at) × (so_far.count < 18446744073709551615) }
+    ensures { Takes (range_here dump.now at) table.old so_far result table.new }
 {
-    if !is_range(dump, at, t) {
-        return Taken { number, count };
+    let Some(r) = range_at(dump, at, t) else {
+        return so_far;
+    };
+    if so_far.count < 128 {
+        table[so_far.count] = r;
     }
-    let code = words::le32(dump, at + 24);
-    let start = words::le64(dump, at + 32);
-    let size = words::le64(dump, at + 40);
-    let judged = judge_end(number, start, size);
-    if 128 <= count {
-        return Taken {
-            number: judged,
-            count: count + 1,
-        };
-    }
-    store(table, count, code as u64, start as u64, size as u64);
     Taken {
-        number: judged,
-        count: count + 1,
+        fit: so_far.fit && range_ends(r),
+        count: so_far.count + 1,
     }
-}
-
-fn refused(number: u32) -> Gathered
-    ensures { result ≡ refused_ranges number }
-{
-    Gathered { number, count: 0 }
 }
 
 // 34, then 35, or all ranges are in the table.
-fn finish(number: u32, count: usize) -> Gathered
-    ensures { Finishes number count result }
+fn finish(taken: Taken) -> Result<usize, u32>
+    ensures { Finishes taken result }
 {
-    if number != 0 {
-        return refused(34);
+    if !taken.fit {
+        return Err(34);
     }
-    if 128 < count {
-        return refused(35);
+    if 128 < taken.count {
+        return Err(35);
     }
-    Gathered { number: 0, count }
+    Ok(taken.count)
 }
 
-// The ranges of a hand-off list, in its order; any bytes. The list is judged to its end before 34 and 35 are told.
-pub fn gather(dump: &[u8], table: &mut [u64]) -> Gathered
-    requires { length table.old ≡ 384 }
+// How many ranges a hand-off list has, and those in its order; or the number of 30 to 35, as C has it. Any bytes. The list is judged to its
+// end before 34 and 35 are told.
+pub fn gather(dump: &[u8], table: &mut [Range; 128]) -> Result<usize, u32>
     ensures { Gathers dump.now result table.new }
 {
     let mut at = 0;
-    let mut number = 0;
-    let mut count = 0;
+    let mut taken = Taken {
+        fit: true,
+        count: 0,
+    };
     loop {
-        let s = handoff_list::pass_one(dump, at);
-        if s.number != 0 {
-            return refused(s.number);
-        }
+        let s = handoff_list::pass_one(dump, at)?;
         if s.code == 65535 {
-            return finish(number, count);
+            return finish(taken);
         }
-        let taken = take(dump, at, s.code, table, number, count);
-        number = taken.number;
-        count = taken.count;
+        taken = take(dump, at, s.code, table, taken);
         at = s.next;
     }
 }

@@ -1,13 +1,13 @@
 -- The answer of a mending, the list and the file, case by case.
 -- Assumes nothing.
-use Rattle.std.specs.Prelude.{ℕ, ◌+◌, ◌/◌, ◌^◌, ◌≤◌, ◌<◌, ◌≡◌, length}
+use Rattle.std.specs.Prelude.{ℕ, ◌/◌, ◌^◌, ◌<◌, ◌≡◌, length}
 use mathlib.Core.List.{List}
 use Rattle.std.proofs.Math.Path.{sym, ap}
 use Rattle.std.proofs.Common.{◌∙◌, arith}
 use Rattle.std.proofs.Math.Decide.{ℕ_discrete}
-use Rattle.facts.specs.Fact.{Holds}
+use Rattle.std.proofs.lemmas.List.Edits.{sets}
 use Rattle.facts.specs.FactLaws.{passes, fails}
-use Rattle.header.specs.Base.{legal_base}
+use Rattle.words.specs.Put.{put_all}
 use Rattle.answers.specs.declared.Audited.{Audited}
 use Rattle.answers.specs.declared.Reading.{Reading}
 use Rattle.answers.specs.AfterLaws.{changed_so, kept_so}
@@ -15,8 +15,9 @@ use Rattle.reading_rules.specs.Reading.{edition1, reading, reading2, Read2, Olde
 use Rattle.reading_rules.specs.Guarantee.{shared}
 use Rattle.reading_rules.specs.Edition.{older_28, refused_same, later_of, same_reading, read2_of}
 use Rattle.move_image.specs.Moving.{move_to}
-use Rattle.audit.specs.Audit.{shipped_base, reference, told_by, refused_audit, auditing, listed, listed_bytes}
-use Rattle.audit.specs.AuditLaws.{later_told, later_reference, audit_unread, audit_accepted, names, list_kept, bytes_kept}
+use Rattle.audit_count.specs.Differences.{entries}
+use Rattle.audit.specs.Audit.{shipped_base, reference, told_by, differing, refused_audit, auditing, listed, listed_bytes}
+use Rattle.audit.specs.AuditLaws.{later_told, later_reference, audit_unread, audit_accepted, names, bytes_kept, listed_so}
 use Rattle.mend_file.specs.PutBack.{restored}
 use Rattle.mend.specs.Mend.{mended, mending, mended_file, mended_list, mended_bytes}
 
@@ -64,25 +65,12 @@ module _ (xs ys : List ℕ) (room : ℕ) where
   unfolding mended_file
   file_mended e = changed_so (mending xs ys room).number (mended xs ys) ys e
 
--- nor of the list
-pub places_kept : (xs ys places : List ℕ) → ((mending xs ys (length places)).number ≡ 0 → ⊥) → mended_list xs ys places ≡ places
-unfolding mended_list
-places_kept xs ys places h = kept_so (mending xs ys (length places)).number (listed xs ys places) places h
-
+-- nor of the list of bytes
 pub places_bytes_kept : (xs ys bytes : List ℕ) → ((mending xs ys (length bytes / 4)).number ≡ 0 → ⊥) → mended_bytes xs ys bytes ≡ bytes
 unfolding mended_bytes
 places_bytes_kept xs ys bytes h = kept_so (mending xs ys (length bytes / 4)).number (listed_bytes xs ys bytes) bytes h
 
--- where the vendor image reads as edition 2 the list is the audit's, refused or not
-pub places_listed : (xs ys places : List ℕ) → Read2 xs → mended_list xs ys places ≡ listed xs ys places
-unfolding mended_list
-places_listed xs ys places ok =
-    elim (ℕ_discrete (mending xs ys (length places)).number 0) [
-      | yes e ↦ changed_so (mending xs ys (length places)).number (listed xs ys places) places e
-      | no n ↦ places_kept xs ys places n
-          ∙ sym (list_kept xs ys places (λ e. n (ap (λ (a : Audited). a.number) (mend_read xs ys (length places) ok) ∙ e)))
-    ]
-
+-- where the vendor image reads as edition 2 that list is the audit's, refused or not
 pub bytes_listed : (xs ys bytes : List ℕ) → Read2 xs → mended_bytes xs ys bytes ≡ listed_bytes xs ys bytes
 unfolding mended_bytes
 bytes_listed xs ys bytes ok =
@@ -91,6 +79,27 @@ bytes_listed xs ys bytes ok =
       | no n ↦ places_bytes_kept xs ys bytes n
           ∙ sym (bytes_kept xs ys bytes (λ e. n (ap (λ (a : Audited). a.number) (mend_read xs ys (length bytes / 4) ok) ∙ e)))
     ]
+
+-- the list afterwards, by whether the mending is refused
+pub words_so : (xs ys places new : List ℕ)
+    → ((mending xs ys (length places)).number ≡ 0 → new ≡ sets places 0 (entries (told_by xs) (differing xs ys)))
+    → (((mending xs ys (length places)).number ≡ 0 → ⊥) → new ≡ places) → new ≡ mended_list xs ys places
+unfolding listed mended_list
+words_so xs ys places new f g =
+    let room = length places in
+    listed_so (mending xs ys room).number (listed xs ys places) places new
+    (λ z. f z
+    ∙ sym (changed_so (auditing xs ys room).number (sets places 0 (entries (told_by xs) (differing xs ys))) places (accepted_audit xs ys room z))) g
+
+pub bytes_so : (xs ys bytes new : List ℕ)
+    → ((mending xs ys (length bytes / 4)).number ≡ 0 → new ≡ put_all 4 bytes 0 (entries (told_by xs) (differing xs ys)))
+    → (((mending xs ys (length bytes / 4)).number ≡ 0 → ⊥) → new ≡ bytes) → new ≡ mended_bytes xs ys bytes
+unfolding listed_bytes mended_bytes
+bytes_so xs ys bytes new f g =
+    let room = length bytes / 4 in
+    listed_so (mending xs ys room).number (listed_bytes xs ys bytes) bytes new
+    (λ z. f z
+    ∙ sym (changed_so (auditing xs ys room).number (put_all 4 bytes 0 (entries (told_by xs) (differing xs ys))) bytes (accepted_audit xs ys room z))) g
 
 -- ---- what the audit's answer gives to what puts back
 

@@ -2,7 +2,7 @@
 -- Assumes nothing.
 use Prim.Native.Nat.{ℕ, zero, suc, ◌+◌, ◌-◌, ◌%◌, ◌^◌, ◌≤◌, ◌<◌}
 use mathlib.Core.List.{List}
-use Rattle.std.specs.Prelude.{◌⊎◌, ◌≡◌, refl, length, get_or}
+use Rattle.std.specs.Prelude.{◌⊎◌, ◌≡◌, length, get_or}
 use Rattle.std.proofs.Math.Logic.{inl, inr}
 use Rattle.std.proofs.Math.Path.{sym, ap}
 use Rattle.std.proofs.Common.{◌∙◌, arith}
@@ -12,7 +12,7 @@ use Rattle.facts.specs.Fact.{Holds}
 use Rattle.words.specs.Le.{le, Alike}
 use Rattle.words.specs.LeLaws.{le_cong}
 use Rattle.words.specs.Put.{digit, add}
-use Rattle.words.specs.PutLaws.{put_in, length_add, add_below, add_above}
+use Rattle.words.specs.PutLaws.{put_in, add_below, add_above}
 use Rattle.items.specs.declared.Item.{Item}
 use Rattle.items.specs.Items.{words_in, listed}
 use Rattle.answers.specs.declared.Reading.{Reading}
@@ -20,7 +20,7 @@ use Rattle.reading_rules.specs.Reading.{rebased, reading2, Read2}
 use Rattle.reading_rules.specs.Guarantee.{Guaranteed}
 use Rattle.reading_rules.specs.Edition.{guaranteed, frame_but}
 use Rattle.reading_rules.specs.Settings.{OutsideSettings}
-use Rattle.reading_rules.specs.Words.{met, words_of}
+use Rattle.reading_rules.specs.Words.{words_of}
 use Rattle.reading_rules.specs.WordsLaws.{spread, words_outside, beside}
 use Rattle.reading_rules.specs.FrameBut.{AlikeBut, words_but}
 use Rattle.moves.specs.Moves.{Words, difference, moved_to, moved}

@@ -5,7 +5,7 @@ use mathlib.Core.List.{List, [], ◌∷◌}
 use Rattle.std.specs.Prelude.{◌⊎◌, ◌≡◌, take, drop, set}
 use Rattle.std.proofs.Math.Logic.{inl, inr}
 use Rattle.std.proofs.Math.Path.{refl, sym}
-use Rattle.std.proofs.Common.{ap, ◌∙◌, length-take, length-drop, ext_get_or, get_or-take, get_or-drop}
+use Rattle.std.proofs.Common.{◌∙◌, length-take, length-drop, ext_get_or, get_or-take, get_or-drop}
 use native.Mathlib.Omega.{arith}
 use Rattle.std.proofs.Math.Decide.{dec_lt, ℕ_discrete}
 use Rattle.std.proofs.Math.ListN.{length, get_or, length-set, get_or-eq_default}

@@ -4,32 +4,20 @@
 ghost use Rattle.std.specs.Prelude.{◌≡◌, ◌+◌, ◌^◌, ◌≤◌, ◌<◌, length};
 ghost use Rattle.reading_rules.specs.Reading.{reading2, Read2};
 ghost use Rattle.move_image.specs.Moving.{move_to};
-ghost use Rattle.sheet_bodies.specs.Set.{copied};
 ghost use Rattle.mend_file.specs.PutBack.{restored};
 ghost use Rattle.mend_file.specs.Laid.{laid};
 
 use answers::Reading;
-
-// Copies the n bytes of the vendor image from `from` on over the file's.
-fn lay(vendor: &[u8], file: &mut [u8], from: usize, n: usize)
-    requires { (from + n ≤ length vendor.now) × (length file.old ≡ length vendor.now) }
-    ensures { file.new ≡ copied file.old from vendor.now from n }
-{
-    let mut k = 0;
-    while k < n {
-        file[from + k] = vendor[from + k];
-        k += 1;
-    }
-}
 
 // Copies all of the vendor image over the file but the settings part.
 fn lay_over(vendor: &[u8], file: &mut [u8], r: Reading)
     requires { (length file.old ≡ length vendor.now) × (length vendor.now ≤ 16777216) × (32 ≤ r.z) × (r.c + r.z ≤ length vendor.now) }
     ensures { file.new ≡ laid vendor.now file.old r }
 {
+    let from = r.c + 32;
     let end = r.c + r.z;
-    lay(vendor, file, 0, r.c + 32);
-    lay(vendor, file, end, vendor.len() - end);
+    file[..from].copy_from_slice(&vendor[..from]);
+    file[end..].copy_from_slice(&vendor[end..]);
 }
 
 // Puts back every byte that isn't a setting's: the vendor's bytes, then these moved to the file's base.

@@ -1,9 +1,7 @@
 -- The audit of a mended file.
 -- Assumes nothing.
-use Rattle.std.specs.Prelude.{ℕ, ◌+◌, ◌≤◌, ◌<◌, true, cond, ◌≡◌, length, get_or}
-use mathlib.Core.List.{List}
-use Rattle.std.proofs.Common.{inl, inr, ◌∙◌, arith}
-use Rattle.std.proofs.Math.Path.{refl, sym, ap}
+use Rattle.std.specs.Prelude.{ℕ, ◌+◌, ◌≤◌, true, cond, ◌≡◌, length, get_or, List, refl}
+use Rattle.std.proofs.Common.{inl, ◌∙◌, arith, sym, ap}
 use Rattle.std.proofs.Math.Seq.{sets}
 use Rattle.facts.specs.Fact.{Fact, Holds, ◌≤?◌, ◌≡?◌, ◌and◌, test}
 use Rattle.facts.specs.FactLaws.{passes, holds}

@@ -1,15 +1,10 @@
 -- The settings among some positions, and which positions differ once all but the settings is the reference's.
 -- Assumes nothing.
-use Prim.Native.Nat.{ℕ, zero, suc, ◌+◌}
-use Rattle.std.specs.Prelude.{cond, ◌⊎◌, ◌≡◌}
-use mathlib.Core.List.{List, [], ◌∷◌}
-use Rattle.std.proofs.Common.{inl, inr, ◌∙◌, arith}
-use Rattle.std.proofs.Math.Path.{refl, sym, ap}
+use Rattle.std.specs.Prelude.{ℕ, zero, suc, ◌+◌, ◌⊎◌, ◌≡◌, List, [], ◌∷◌, refl, get_or}
+use Rattle.std.proofs.Common.{inl, inr, ◌∙◌, arith, sym, ap}
 use Rattle.std.proofs.Math.Decide.{ℕ_discrete}
-use Rattle.std.proofs.Math.ListN.{get_or}
 use Rattle.facts.specs.Fact.{Holds}
 use Rattle.facts.specs.FactLaws.{passes, fails}
-use Rattle.facts.specs.RulesLaws.{by_test}
 use Rattle.answers.specs.declared.Reading.{Reading}
 use Rattle.reading_rules.specs.Settings.{OutsideSettings}
 use Rattle.audit_count.specs.Differences.{agrees, differences, setting, entry, settings, strays, flips, bits, entries}

@@ -1,8 +1,8 @@
 -- The small image mended: it was moved, two settings were changed, and a byte of each kind of place is a stray: the first and the last of
 -- the file, one of the header, the table, the region's header, the patch word, the module's image base and its relocation word.
 -- Assumes nothing.
-use Rattle.std.specs.Prelude.{ℕ, ◌≤◌, true, false, List, [], ◌∷◌, ◌≡◌, refl, length, set}
-use Rattle.std.proofs.Common.{sym, ap, ◌∙◌, arith}
+use Rattle.std.specs.Prelude.{ℕ, false, List, [], ◌∷◌, ◌≡◌, refl, length, set}
+use Rattle.std.proofs.Common.{ap, ◌∙◌, arith}
 use Rattle.facts.specs.Fact.{test}
 use Rattle.words.specs.Le.{le}
 use Rattle.words.specs.Put.{digit}
@@ -10,10 +10,9 @@ use Rattle.words.specs.Number.{number, zeros}
 use Rattle.answers.specs.declared.Audited.{Audited}
 use Rattle.answers.specs.declared.Reading.{Reading}
 use Rattle.reading_rules.specs.Reading.{Read2}
-use Rattle.reading_rules.specs.Guarantee.{Later}
 use Rattle.reading_rules.specs.Small.{small, setting_bytes, small_reading, small_reads, small_reads_2}
-use Rattle.audit_count.specs.Differences.{differences, setting, settings, strays, bits, flips}
-use Rattle.audit.specs.Audit.{reference, told_by, auditing}
+use Rattle.audit_count.specs.Differences.{differences, settings, strays, bits, flips}
+use Rattle.audit.specs.Audit.{told_by}
 use Rattle.audit.specs.AuditLaws.{later_told}
 use Rattle.audit.specs.Small.{small_reference, small_told}
 use Rattle.mend_file.specs.PutBack.{put_back, restored}

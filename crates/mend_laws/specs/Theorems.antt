@@ -11,9 +11,9 @@ use Rattle.reading_rules.specs.Reading.{reading2}
 use Rattle.audit_count.specs.Differences.{setting}
 use Rattle.audit.specs.Audit.{told_by, differing, auditing, listed, Audits}
 use Rattle.mend.specs.Mend.{mended, mending, mended_file, Mends, MendsBytes}
-use Rattle.mend.specs.MendLaws.{mend_read, accepted_read, file_kept, file_mended}
+use Rattle.mend.specs.MendLaws.{file_kept, file_mended}
 use Rattle.mend_laws.specs.Cleared.{settings_only, cleared}
-use Rattle.mend_laws.specs.Left.{told_two, mended_long, mended_setting, mended_again, explained_same, audit_left, list_left}
+use Rattle.mend_laws.specs.Left.{told_two, mended_setting, mended_again, explained_same, audit_left, list_left}
 
 -- the file that a mending with so much room leaves: what both promises say of it
 abbrev pub Leaves : List ℕ → List ℕ → ℕ → Audited → List ℕ → Type 0

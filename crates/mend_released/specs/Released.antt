@@ -1,6 +1,6 @@
 -- Document 02, #110: a mended file is one that a release of the vendor image makes.
 -- Assumes nothing.
-use Rattle.std.specs.Prelude.{ℕ, ◌<◌, List, ◌⊎◌, ◌≡◌, length, get_or}
+use Rattle.std.specs.Prelude.{ℕ, ◌<◌, List, ◌⊎◌, ◌≡◌, get_or}
 use Rattle.std.proofs.Common.{inl, inr, sym, ap, ◌∙◌}
 use Rattle.facts.specs.Fact.{Holds}
 use Rattle.words.specs.Le.{Bytes}
@@ -9,7 +9,7 @@ use Rattle.reading_rules.specs.Settings.{OutsideSettings}
 use Rattle.move_image.specs.Moving.{moved_image}
 use Rattle.release_steps.specs.MoveStep.{bytes_after}
 use Rattle.audit_count.specs.Differences.{setting}
-use Rattle.audit.specs.Audit.{shipped_base, reference, told_by}
+use Rattle.audit.specs.Audit.{shipped_base, told_by}
 use Rattle.mend_file.specs.PutBackLaws.{sided}
 use Rattle.mend.specs.Mend.{mended, mending}
 use Rattle.mend.specs.MendLaws.{accepted_read, file_mended}

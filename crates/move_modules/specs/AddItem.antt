@@ -9,39 +9,39 @@ use Rattle.words.specs.Le.{Alike}
 use Rattle.words.specs.Put.{add}
 use Rattle.words.specs.PutLaws.{length_add, add_below, add_above}
 use Rattle.items.specs.declared.Item.{Item}
-use Rattle.items.specs.Items.{each, word_kind}
+use Rattle.items.specs.Items.{each, word_kind, kind_number}
 use Rattle.items.specs.Shapes.{Kept}
 use Rattle.move_modules.specs.Relocate.{shift, add_item, moved_by, clear}
 
 pub length_add_item : (xs : List ℕ) (x : Item) (d : ℕ → ℕ) → length (add_item xs x d) ≡ length xs
 unfolding add_item
 length_add_item xs x d =
-    elim (ℕ_discrete x.kind word_kind) [
-      | yes h ↦ rw (eq-eqb x.kind word_kind h) (length_add x.len xs x.at (d x.len))
-      | no h ↦ rw (ne_eqb x.kind word_kind h)
+    elim (ℕ_discrete (kind_number x.kind) word_kind) [
+      | yes h ↦ rw (eq-eqb (kind_number x.kind) word_kind h) (length_add x.len xs x.at (d x.len))
+      | no h ↦ rw (ne_eqb (kind_number x.kind) word_kind h)
     ]
 
 -- a word of 4 bytes, and one of 8
-pub add_four : (xs : List ℕ) (x : Item) (four eight : ℕ) → x.kind ≡ word_kind → x.len ≡ 4
+pub add_four : (xs : List ℕ) (x : Item) (four eight : ℕ) → kind_number x.kind ≡ word_kind → x.len ≡ 4
     → add_item xs x (shift four eight) ≡ add 4 xs x.at four
 unfolding add_item
-add_four xs x four eight k e = rw (eq-eqb x.kind word_kind k, e)
+add_four xs x four eight k e = rw (eq-eqb (kind_number x.kind) word_kind k, e)
 
-pub add_eight : (xs : List ℕ) (x : Item) (four eight : ℕ) → x.kind ≡ word_kind → x.len ≡ 8
+pub add_eight : (xs : List ℕ) (x : Item) (four eight : ℕ) → kind_number x.kind ≡ word_kind → x.len ≡ 8
     → add_item xs x (shift four eight) ≡ add 8 xs x.at eight
 unfolding add_item
-add_eight xs x four eight k e = rw (eq-eqb x.kind word_kind k, e)
+add_eight xs x four eight k e = rw (eq-eqb (kind_number x.kind) word_kind k, e)
 
 -- bytes that it has none of keep their values
-alike_add : (a b : List ℕ) (x y : Item) (d : ℕ → ℕ) → (y.kind ≢ word_kind) → Holds (clear x y) → Alike a b y.at y.len
+alike_add : (a b : List ℕ) (x y : Item) (d : ℕ → ℕ) → (kind_number y.kind ≢ word_kind) → Holds (clear x y) → Alike a b y.at y.len
     → Alike a (add_item b x d) y.at y.len
 unfolding add_item
 alike_add a b x y d other (inl e) same = absurd (other e)
-alike_add a b x y d other (inr (inl h)) same = rw (ne_eqb x.kind word_kind h) same
+alike_add a b x y d other (inr (inl h)) same = rw (ne_eqb (kind_number x.kind) word_kind h) same
 alike_add a b x y d other (inr (inr out)) same =
-    elim (ℕ_discrete x.kind word_kind) [
-      | no h ↦ rw (ne_eqb x.kind word_kind h) same
-      | yes h ↦ rw (eq-eqb x.kind word_kind h) (record { same = λ j l. same.same j l ∙ sym (beside j l out) })
+    elim (ℕ_discrete (kind_number x.kind) word_kind) [
+      | no h ↦ rw (ne_eqb (kind_number x.kind) word_kind h) same
+      | yes h ↦ rw (eq-eqb (kind_number x.kind) word_kind h) (record { same = λ j l. same.same j l ∙ sym (beside j l out) })
     ]
   where
     beside : (j : ℕ) → j < y.len → (x.at + x.len ≤ y.at) ⊎ (y.at + y.len ≤ x.at)

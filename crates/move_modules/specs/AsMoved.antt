@@ -5,7 +5,7 @@ use Rattle.std.proofs.Common.{sym, ap, ◌∙◌, arith, eq-eqb, ne_eqb}
 use Rattle.std.proofs.Math.Decide.{ℕ_discrete}
 use Rattle.moves.specs.Moves.{Words, moved_to, moved}
 use Rattle.items.specs.declared.Item.{Item}
-use Rattle.items.specs.Items.{words_in, nth, listed, word_kind}
+use Rattle.items.specs.Items.{words_in, nth, listed, word_kind, kind_number}
 use Rattle.items.specs.Listed.{words_none, words_more, words_same}
 use Rattle.move_modules.specs.Relocate.{add_item, moved_by}
 
@@ -16,14 +16,14 @@ drop_nth (y ∷ l) zero x r e = (cc, cc)
 drop_nth (y ∷ l) (suc i) x r e = drop_nth l i x r e
 
 -- a word's turn, and that of what is no word
-word_turn : (xs : List ℕ) (ws : List Item) (d : ℕ → ℕ) (i : ℕ) (x : Item) → x.kind ≡ word_kind → nth ws i ≡ x
+word_turn : (xs : List ℕ) (ws : List Item) (d : ℕ → ℕ) (i : ℕ) (x : Item) → kind_number x.kind ≡ word_kind → nth ws i ≡ x
     → add_item (moved_to xs (listed ws) d i) x d ≡ moved_to xs (listed ws) d (suc i)
 unfolding add_item moved_to
-word_turn xs ws d i x k e = rw (eq-eqb x.kind word_kind k, e)
+word_turn xs ws d i x k e = rw (eq-eqb (kind_number x.kind) word_kind k, e)
 
-plain_turn : (ys : List ℕ) (d : ℕ → ℕ) (x : Item) → (x.kind ≢ word_kind) → add_item ys x d ≡ ys
+plain_turn : (ys : List ℕ) (d : ℕ → ℕ) (x : Item) → (kind_number x.kind ≢ word_kind) → add_item ys x d ≡ ys
 unfolding add_item
-plain_turn ys d x k = rw (ne_eqb x.kind word_kind k)
+plain_turn ys d x k = rw (ne_eqb (kind_number x.kind) word_kind k)
 
 moved_first : (xs : List ℕ) (ws : Words) (d : ℕ → ℕ) → moved_to xs ws d 0 ≡ xs
 unfolding moved_to
@@ -33,9 +33,9 @@ by_list : (xs : List ℕ) (ws : List Item) (d : ℕ → ℕ) (l : List Item) (i 
     → i + length (words_in l) ≡ length ws → moved_by (moved_to xs (listed ws) d i) l d ≡ moved xs (listed ws) d
 unfolding moved_by
 by_list xs ws d [] i e n = let s : i ≡ length ws = omega (arith, words_none) in rw s
-by_list xs ws d (x ∷ l) i e n = go (ℕ_discrete x.kind word_kind) (by_list xs ws d l)
+by_list xs ws d (x ∷ l) i e n = go (ℕ_discrete (kind_number x.kind) word_kind) (by_list xs ws d l)
   where
-    go : Dec (x.kind ≡ word_kind)
+    go : Dec (kind_number x.kind ≡ word_kind)
         → ((k : ℕ) → drop k ws ≡ words_in l → k + length (words_in l) ≡ length ws
         → moved_by (moved_to xs (listed ws) d k) l d ≡ moved xs (listed ws) d)
         → moved_by (add_item (moved_to xs (listed ws) d i) x d) l d ≡ moved xs (listed ws) d

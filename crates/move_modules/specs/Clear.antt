@@ -5,7 +5,7 @@ use Rattle.std.proofs.Common.{append_assoc, inl, inr}
 use Rattle.std.proofs.Math.Decide.{ℕ_discrete}
 use Rattle.facts.specs.Fact.{Holds}
 use Rattle.items.specs.declared.Item.{Item}
-use Rattle.items.specs.Items.{each, apart, apart_from, word_kind}
+use Rattle.items.specs.Items.{each, apart, apart_from, word_kind, kind_number}
 use Rattle.items.specs.ItemsLaws.{each_so, each_join, each_last, apart_turned, apart_across}
 use Rattle.move_modules.specs.Relocate.{clear}
 
@@ -14,7 +14,7 @@ apart_clear x y (inl h) = inr (inl h.0)
 apart_clear x y (inr h) = inr (inr h)
 
 own : (x : Item) → Holds (clear x x)
-own x = elim (ℕ_discrete x.kind word_kind) [ yes k ↦ inl k | no k ↦ inr (inl k) ]
+own x = elim (ℕ_discrete (kind_number x.kind) word_kind) [ yes k ↦ inl k | no k ↦ inr (inl k) ]
 
 clear_from : (before l : List Item) → Holds (apart_from before l) → Holds (each (λ x. each (clear x) (before ++ l)) l)
 unfolding each apart_from

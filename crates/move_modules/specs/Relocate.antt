@@ -4,7 +4,7 @@ use Rattle.std.specs.Prelude.{◌≡◌, ℕ, ◌+◌, ◌*◌, ◌<◌, ◌≤�
 use Rattle.facts.specs.Fact.{Fact, ◌≤?◌, ◌≡?◌, deny, ◌or◌, Holds}
 use Rattle.words.specs.Put.{add}
 use Rattle.items.specs.declared.Item.{Item}
-use Rattle.items.specs.Items.{each, apart_from, inside, kept_kind, word_kind}
+use Rattle.items.specs.Items.{each, apart_from, inside, kept_kind, word_kind, kind_number}
 use Rattle.items.specs.Judged.{unbroken}
 use Rattle.items.specs.Shapes.{Kept}
 use Rattle.inside_rows.specs.declared.Module.{Module}
@@ -21,7 +21,7 @@ shift four eight k = cond (k == 4) four eight
 
 -- xs with the item's word moved; what is no word changes nothing
 unfoldable pub add_item : List ℕ → Item → (ℕ → ℕ) → List ℕ
-add_item xs x d = cond (x.kind == word_kind) (add x.len xs x.at (d x.len)) xs
+add_item xs x d = cond (kind_number x.kind == word_kind) (add x.len xs x.at (d x.len)) xs
 
 -- xs with each word moved, one after the other
 unfoldable pub moved_by : List ℕ → List Item → (ℕ → ℕ) → List ℕ
@@ -36,12 +36,12 @@ pub record Movable (xs : List ℕ) (v f : ℕ) : Type 0 where
 
 -- a word x has no byte of y, which is looked at
 abbrev pub clear : Item → Item → Fact
-clear x y = y.kind ≡? word_kind or deny (x.kind ≡? word_kind) or x.at + x.len ≤? y.at or y.at + y.len ≤? x.at
+clear x y = kind_number y.kind ≡? word_kind or deny (kind_number x.kind ≡? word_kind) or x.at + x.len ≤? y.at or y.at + y.len ≤? x.at
 
 -- the k bytes at p, if there are any, lie in one of the items that are looked at
 unfoldable pub Held : List Item → ℕ → ℕ → Type 0
 Held [] p k = k ≡ 0
-Held (y ∷ l) p k = ((y.kind ≡ kept_kind) × (y.at ≤ p) × (p + k ≤ y.at + y.len)) ⊎ Held l p k
+Held (y ∷ l) p k = ((kind_number y.kind ≡ kept_kind) × (y.at ≤ p) × (p + k ≤ y.at + y.len)) ⊎ Held l p k
 
 -- ys is xs with the words moved that the walk has passed, and the walk over ys stands at s
 pub record Moving (xs : List ℕ) (v f : ℕ) (d : ℕ → ℕ) (ys : List ℕ) (s : Spot) : Type 0 where

@@ -1,6 +1,6 @@
 -- A turn of the mover: the walk over the changed image is the walk over the image as it was.
 -- Assumes nothing.
-use Rattle.inside_rows.specs.Rows.{pe_kind, te_kind}
+use Rattle.inside_rows.specs.Rows.{pe_kind, te_kind, module_number}
 use Rattle.std.specs.Prelude.{◌≡◌, ℕ, zero, suc, ◌+◌, ◌-◌, ◌*◌, ◌<◌, ◌≤◌, List, ◌∷◌, ◌++◌, length, drop, refl}
 use Rattle.std.proofs.Math.Logic.{inl, inr}
 use Rattle.std.proofs.Math.Path.{sym, ap}
@@ -9,7 +9,7 @@ use Rattle.facts.specs.Fact.{Fact, Holds}
 use Rattle.words.specs.Le.{Bytes}
 use Rattle.moves.specs.Moves.{moved}
 use Rattle.items.specs.declared.Item.{Item}
-use Rattle.items.specs.Items.{each, inside, words_in, listed, end_kind}
+use Rattle.items.specs.Items.{each, inside, words_in, listed, end_kind, kind_number}
 use Rattle.items.specs.ItemsLaws.{take_more, each_fork}
 use Rattle.items.specs.Judged.{unbroken}
 use Rattle.inside_rows.specs.declared.Module.{Module}
@@ -49,10 +49,10 @@ start_holds xs m fits =
     elim fits.headed [
       | inl e ↦ held_none _ m.table (40 * m.rows) (omega arith)
       | inr (inl e) ↦
-          rw (eq-eqb m.kind pe_kind e)
+          rw (eq-eqb (module_number m.kind) pe_kind e)
           (held_left (heads_from m 4) _ m.table (40 * m.rows) (heads_hold m 3 fits.base_within))
       | inr (inr e) ↦
-          rw (ne_eqb m.kind pe_kind (λ z. omega arith), eq-eqb m.kind te_kind e)
+          rw (ne_eqb (module_number m.kind) pe_kind (λ z. omega arith), eq-eqb (module_number m.kind) te_kind e)
           (held_left (heads_from m 3) _ m.table (40 * m.rows) (heads_hold m 2 fits.base_within))
     ]
 
@@ -107,11 +107,11 @@ module _ (xs : List ℕ) (v f : ℕ) (d : ℕ → ℕ) (ok : Movable xs v f) whe
         (held_alike xs ys all _ _ g.kept g.rows) (held_alike xs ys all _ _ g.kept g.entries)
         (rw g.rest at (kept_drop xs ys all g.i g.kept))
 
-    pub moving_end : t.item.kind ≡ end_kind → ys ≡ moved xs (listed (words_in (walked xs v f))) d
+    pub moving_end : kind_number t.item.kind ≡ end_kind → ys ≡ moved xs (listed (words_in (walked xs v f))) d
     unfolding moved_by
     moving_end z = rw (same_here ∙ step.ends z) at g.done ∙ as_moved xs (walked xs v f) d
 
-    module _ (is : t.item.kind ≡ end_kind → ⊥) where
+    module _ (is : kind_number t.item.kind ≡ end_kind → ⊥) where
       there : drop g.i (walked xs v f) ≡ t.item ∷ ahead ys v t.next
       there = g.rest ∙ same_here ∙ step.goes is
 

@@ -1,7 +1,7 @@
 -- Document 02, #106: the owner list, what makes one good, and which byte of the region is whose. o is the list, of ranges of 8 bytes.
 -- Assumes nothing.
 use Rattle.std.specs.Prelude.{ℕ, zero, suc, ◌+◌, ◌*◌, ◌/◌, ◌%◌, List, length}
-use Rattle.facts.specs.Fact.{Fact, Holds, ◌≤?◌, ◌≡?◌, deny, ◌and◌, ◌or◌, every}
+use Rattle.facts.specs.Fact.{Fact, ◌≤?◌, ◌≡?◌, deny, ◌and◌, ◌or◌, every}
 use Rattle.words.specs.Le.{le}
 use Rattle.sheet.specs.Sheet.{count, offset, size}
 use Rattle.owners.specs.declared.Range.{Range}

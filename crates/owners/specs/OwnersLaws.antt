@@ -1,10 +1,10 @@
 -- The ranges of a good list ascend, so the first that ends past a byte is the only one that can have it; and what the walk over them keeps.
 -- Assumes nothing.
-use Rattle.std.specs.Prelude.{ℕ, zero, suc, ◌+◌, ◌-◌, ◌≤◌, ◌<◌, Bool, List, ◌≡◌}
+use Rattle.std.specs.Prelude.{ℕ, zero, suc, ◌≤◌, ◌<◌, List, ◌≡◌, Option, MatchOption}
 use Rattle.std.proofs.Common.{arith}
 use Rattle.std.proofs.Math.Decide.{dec_lt}
-use Rattle.facts.specs.Fact.{Fact, Holds, every}
-use Rattle.owners.specs.Owners.{ranges, range_at, range_end, range_from, list_fits, holds_byte, owned}
+use Rattle.facts.specs.Fact.{Holds}
+use Rattle.owners.specs.Owners.{ranges, range_at, range_end, list_fits, holds_byte, owned}
 
 -- all ranges before range i end at k or before
 abbrev pub PassedBy : List ℕ → ℕ → ℕ → Type 0
@@ -16,10 +16,11 @@ pub record Reached (o : List ℕ) (k i : ℕ) : Type 0 where
   pub passed : PassedBy o i k
   pub ahead : i < ranges o → k < range_end o i
 
--- r says how far from k on the bytes are this owner's, as range i has them: 0 where k isn't
-pub record Runs (o : List ℕ) (owner k i r : ℕ) : Type 0 where
-  pub none : r ≡ 0 → Holds (owned o owner k) → ⊥
-  pub some : (r ≡ 0 → ⊥) → (i < ranges o) × (k < r) × (r ≡ range_end o i) × ((j : ℕ) → k ≤ j → j < r → Holds (owned o owner j))
+-- r says how far from k on the bytes are this owner's, as range i has them: `None` where k isn't
+abbrev pub Runs : List ℕ → ℕ → ℕ → ℕ → Option ℕ → Type 0
+Runs o owner k i r =
+    MatchOption r (Holds (owned o owner k) → ⊥)
+    (λ e. (k < e) × (e ≡ range_end o i) × ((j : ℕ) → k ≤ j → j < e → Holds (owned o owner j)))
 
 module _ (o : List ℕ) (z : ℕ) (good : Holds (list_fits o z)) where
   -- a range begins at or past the end of each before it

@@ -72,14 +72,12 @@ fn list_fits(owners: &[u8], z: usize) -> bool
         return false;
     }
     let mut from = 32;
-    let mut i = 0;
-    while i < n {
+    for i in 0..n {
         let w = range_at(owners, i);
         if !range_fits(w, from, z) {
             return false;
         }
         from = w.offset + w.size;
-        i += 1;
     }
     true
 }
@@ -95,11 +93,4 @@ pub fn owners_fit(owners: &[u8], owner: usize, z: usize) -> bool
         return false;
     }
     true
-}
-
-// Whether the bytes of a run are all one owner's, and the range where the walk stands.
-#[derive(Clone, Copy)]
-pub struct Walked {
-    pub all: bool,
-    pub at: usize,
 }

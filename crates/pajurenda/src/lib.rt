@@ -1,5 +1,8 @@
-// The library as C calls it, by the exports of `pajurenda_c`. Each answer is written in a lent buffer; the header is include/pajurenda.h.
-#![tactic(auto)]
+// The library as C calls it, by the exports of `pajurenda_c`. Each answer is written in a lent buffer; the header is include/pajurenda.h, which
+// fixes the number 100 for a buffer with no room.
+// Each call tests the room itself and writes its answer after: a function that took the call as a closure would know nothing of the image or
+// the list that the closure changes.
+#![tactic(auto, using(c_answers::specs::AnswerLaws::roomy, c_answers::specs::AnswerLaws::short))]
 
 ghost use Rattle.pajurenda.specs.Promises.{ReadCall, ReleaseCall, SheetCall, SettingCall, AuditCall, ContentsCall, HandoffCall, HandoffsCall};
 
@@ -17,7 +20,7 @@ pub fn pajurenda_read(image: &[u8], answer: &mut [u8]) -> u32
         return 100;
     }
     let r = reading::read(image);
-    c_answers::write_reading(answer, r);
+    c_answers::write_fields(answer, &c_answers::read_fields(r));
     r.number
 }
 
@@ -36,7 +39,7 @@ pub fn pajurenda_release(
         return 100;
     }
     let r = release::release(image, sheet, base, owners, owner);
-    c_answers::write_moved(answer, r);
+    c_answers::write_fields(answer, &c_answers::move_fields(r));
     r.number
 }
 
@@ -48,7 +51,7 @@ pub fn pajurenda_sheet(sheet: &[u8], answer: &mut [u8]) -> u32
         return 100;
     }
     let r = sheet::read_sheet(sheet);
-    c_answers::write_sheet_reading(answer, r);
+    c_answers::write_fields(answer, &c_answers::sheet_fields(r));
     r.number
 }
 
@@ -60,7 +63,7 @@ pub fn pajurenda_setting(image: &[u8], offset: u64, size: u64, answer: &mut [u8]
         return 100;
     }
     let r = setting::find(image, offset, size);
-    c_answers::write_found(answer, r);
+    c_answers::write_fields(answer, &c_answers::setting_fields(r));
     r.number
 }
 
@@ -72,7 +75,7 @@ pub fn pajurenda_audit(vendor: &[u8], shipped: &[u8], places: &mut [u8], answer:
         return 100;
     }
     let r = audit::audit_bytes(vendor, shipped, places);
-    c_answers::write_audited(answer, r);
+    c_answers::write_fields(answer, &c_answers::audit_fields(r));
     r.number
 }
 
@@ -84,7 +87,7 @@ pub fn pajurenda_contents(image: &[u8], places: &mut [u8], answer: &mut [u8]) ->
         return 100;
     }
     let r = contents::list_contents(image, places);
-    c_answers::write_listed(answer, r);
+    c_answers::write_fields(answer, &c_answers::list_fields(r));
     r.number
 }
 
@@ -99,7 +102,7 @@ pub fn pajurenda_handoff(buffer: &[u8], cursor: u64, answer: &mut [u8]) -> u32
         at: cursor as usize,
     };
     let s = c.step(buffer);
-    c_answers_handoff::write_step(answer, s);
+    c_answers::write_fields(answer, &c_answers_handoff::step_fields(s));
     s.number
 }
 
@@ -111,7 +114,7 @@ pub fn pajurenda_handoffs(buffer: &[u8], answer: &mut [u8]) -> u32
         return 100;
     }
     let r = handoff_list::count(buffer);
-    c_answers_handoff::write_counted(answer, r);
+    c_answers::write_fields(answer, &c_answers_handoff::count_fields(r));
     r.number
 }
 

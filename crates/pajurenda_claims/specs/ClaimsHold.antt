@@ -1,9 +1,7 @@
 -- The claims of #110, #111 and #114 hold of what C calls.
 -- Assumes nothing.
-use Rattle.std.specs.Prelude.{ℕ, ◌*◌, ◌/◌, ◌≤◌, ◌≡◌, refl, length, take}
-use mathlib.Core.List.{List}
-use Rattle.std.proofs.Common.{inl, inr, sym, ◌∙◌, arith, ne_eqb}
-use Rattle.std.proofs.Math.Path.{ap}
+use Rattle.std.specs.Prelude.{ℕ, ◌*◌, ◌/◌, ◌≤◌, ◌≡◌, refl, length, take, List}
+use Rattle.std.proofs.Common.{inl, inr, sym, ◌∙◌, arith, ne_eqb, ap}
 use Rattle.std.proofs.Math.Decide.{dec_lt}
 use Rattle.words.specs.Le.{Bytes}
 use Rattle.words.specs.Put.{put_all}

@@ -1,18 +1,16 @@
-// Request #114, for C: a pile of sheets folded into one. The call answers in a lent buffer, as the others do.
-#![tactic(auto)]
+// Request #114, for C: a pile of sheets folded into one. The call answers in a lent buffer, as the others do; 100 is their
+// number for a buffer with no room (include/pajurenda.h).
+#![tactic(auto, using(c_answers::specs::AnswerLaws::roomy, c_answers::specs::AnswerLaws::short))]
 
-ghost use Rattle.std.specs.Prelude.{◌≡◌, ◌≤◌, length};
-ghost use Rattle.words.specs.Put.{put_all};
+ghost use Rattle.std.specs.Prelude.{◌≡◌};
 ghost use Rattle.pajurenda_fold.specs.Promises.{fold_fields, FoldCall};
 
 use fold::Folded;
 
-fn write_folded(answer: &mut [u8], r: Folded)
-    requires { 24 ≤ length answer.old }
-    ensures { answer.new ≡ put_all 8 answer.old 0 (fold_fields r) }
+fn fold_fields(r: Folded) -> [u64; 3]
+    ensures { result ≡ fold_fields r }
 {
-    let fields = [r.number as u64, r.size as u64, r.entries as u64];
-    c_answers::write_fields(answer, &fields);
+    [r.number as u64, r.size as u64, r.entries as u64]
 }
 
 // The sheets of a pile as one sheet.
@@ -23,6 +21,6 @@ pub fn pajurenda_fold(pile: &[u8], output: &mut [u8], answer: &mut [u8]) -> u32
         return 100;
     }
     let r = fold::fold(pile, output);
-    write_folded(answer, r);
+    c_answers::write_fields(answer, &fold_fields(r));
     r.number
 }

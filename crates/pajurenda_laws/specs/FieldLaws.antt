@@ -2,17 +2,15 @@
 -- itself.
 -- Assumes nothing.
 use Prim.{Unit, tt}
-use Rattle.std.specs.Prelude.{ℕ, zero, suc, ◌+◌, ◌-◌, ◌*◌, ◌/◌, ◌^◌, ◌≤◌, ◌<◌, Bool, true, false, cond, List, [], ◌∷◌, ◌⊎◌, ◌≡◌, refl, ℤ, pos, negsuc, ◌-ℤ◌, ltb, eqb, length, get_or}
-use Rattle.std.proofs.Common.{inl, inr, sym, ap, ◌∙◌, arith}
+use Rattle.std.specs.Prelude.{ℕ, zero, suc, ◌+◌, ◌-◌, ◌*◌, ◌^◌, ◌≤◌, ◌<◌, Bool, true, false, cond, List, [], ◌∷◌, ◌≡◌, pos, negsuc, ◌-ℤ◌, ltb, length, get_or}
+use Rattle.std.proofs.Common.{inl, inr, ap, arith}
 use Rattle.std.proofs.Math.Decide.{ℕ_discrete}
-use Rattle.facts.specs.Fact.{Holds, test}
 use Rattle.facts.specs.Rules.{run}
-use Rattle.facts.specs.RulesLaws.{by_test, by_cond}
+use Rattle.facts.specs.RulesLaws.{by_test}
 use Rattle.words.specs.Le.{le, Bytes}
 use Rattle.words.specs.LeLaws.{le_lt}
 use Rattle.header.specs.Header.{extended_number}
 use Rattle.header.specs.HeaderLaws.{extended_small}
-use Rattle.header.specs.Base.{legal_base}
 use Rattle.answers.specs.declared.Identity.{Identity}
 use Rattle.answers.specs.declared.Reading.{Reading}
 use Rattle.reading_rules.specs.Reading.{identity_at, reading, Read, reading2}
@@ -48,7 +46,6 @@ use Rattle.reading_rules.specs.Numbers.{OwnList}
 use Rattle.c_answers.specs.Answers.{twos, read_fields, move_fields, sheet_fields, setting_fields, audit_fields, list_fields}
 use Rattle.setting.specs.Finding.{finding}
 use Rattle.setting.specs.FindingLaws.{found_refused, found_accepted}
-use Rattle.answers.specs.declared.Found.{Found}
 
 -- each is a number of 64 bits
 abbrev pub Small : List ℕ → Type 0

@@ -11,7 +11,6 @@ use Rattle.answers.specs.declared.Reading.{Reading}
 use Rattle.reading_rules.specs.Reading.{reading, reading2}
 use Rattle.reading_rules.specs.Small.{small, setting_bytes, small_reads, small_reads_2}
 use Rattle.answers.specs.declared.Moved.{Moved}
-use Rattle.sheet.specs.declared.SheetReading.{SheetReading}
 use Rattle.sheet.specs.Sheet.{body_at}
 use Rattle.sheet.specs.ReadSheet.{sheet_reading}
 use Rattle.sheet_bodies.specs.Small.{sample}

@@ -1,27 +1,22 @@
 // Request #111, for C: the memory map of a hand-off list, and a place for an image in it. A call answers in a lent buffer, as the others do.
-#![tactic(auto)]
+#![tactic(auto, using(c_answers::specs::AnswerLaws::roomy, c_answers::specs::AnswerLaws::short))]
 
-ghost use Rattle.std.specs.Prelude.{◌≡◌, ◌≤◌, length};
-ghost use Rattle.words.specs.Put.{put_all};
+ghost use Rattle.std.specs.Prelude.{◌≡◌};
 ghost use Rattle.pajurenda_map.specs.Promises.{map_fields, place_fields, MapCall, PlaceCall};
 
 use map_list::Mapped;
 use map_place::Placed;
 
-fn write_mapped(answer: &mut [u8], r: Mapped)
-    requires { 16 ≤ length answer.old }
-    ensures { answer.new ≡ put_all 8 answer.old 0 (map_fields r) }
+fn map_fields(r: Mapped) -> [u64; 2]
+    ensures { result ≡ map_fields r }
 {
-    let fields = [r.number as u64, r.count as u64];
-    c_answers::write_fields(answer, &fields);
+    [r.number as u64, r.count as u64]
 }
 
-fn write_placed(answer: &mut [u8], r: Placed)
-    requires { 16 ≤ length answer.old }
-    ensures { answer.new ≡ put_all 8 answer.old 0 (place_fields r) }
+fn place_fields(r: Placed) -> [u64; 2]
+    ensures { result ≡ place_fields r }
 {
-    let fields = [r.number as u64, r.base];
-    c_answers::write_fields(answer, &fields);
+    [r.number as u64, r.base]
 }
 
 // The runs of free bytes, each by its first and its last byte.
@@ -32,7 +27,7 @@ pub fn pajurenda_map(dump: &[u8], out: &mut [u8], answer: &mut [u8]) -> u32
         return 100;
     }
     let r = map_list::map(dump, out);
-    write_mapped(answer, r);
+    c_answers::write_fields(answer, &map_fields(r));
     r.number
 }
 
@@ -44,6 +39,6 @@ pub fn pajurenda_lowest_base(dump: &[u8], size: u64, answer: &mut [u8]) -> u32
         return 100;
     }
     let r = map_place::place(dump, size);
-    write_placed(answer, r);
+    c_answers::write_fields(answer, &place_fields(r));
     r.number
 }

@@ -1,5 +1,6 @@
-// Request #110, for C: stray bytes put back. The call answers in a lent buffer, as the audit does.
-#![tactic(auto)]
+// Request #110, for C: stray bytes put back. The call answers in a lent buffer, as the audit does; 100 is the
+// number for a buffer with no room (include/pajurenda.h).
+#![tactic(auto, using(c_answers::specs::AnswerLaws::roomy, c_answers::specs::AnswerLaws::short))]
 
 ghost use Rattle.pajurenda_mend.specs.Promises.{MendCall};
 
@@ -16,6 +17,6 @@ pub fn pajurenda_mend(
         return 100;
     }
     let r = mend::mend_bytes(vendor, shipped, places);
-    c_answers::write_audited(answer, r);
+    c_answers::write_fields(answer, &c_answers::audit_fields(r));
     r.number
 }

@@ -6,5 +6,8 @@ ghost use Rattle.digest.specs.Digest.{Digests};
 pub fn pajurenda_sha256(bytes: &[u8], answer: &mut [u8]) -> u32
     ensures { Digests bytes.now answer.old result answer.new }
 {
-    digest::sha256(bytes, answer)
+    match digest::sha256(bytes, answer) {
+        Ok(()) => 0,
+        Err(refusal) => refusal.number(),
+    }
 }

@@ -1,3 +1,2 @@
 pub mod Audit
 pub mod AuditLaws
-pub mod Small

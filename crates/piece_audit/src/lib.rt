@@ -1,45 +1,15 @@
 // Document 01, "The audit", over the reference piece by piece; `audit` is the one that C calls.
 #![tactic(auto)]
 
-ghost use Rattle.std.specs.Prelude.{true, false, ◌⊎◌, ◌≡◌, ◌/◌, ◌≤◌, length};
-ghost use Rattle.std.proofs.lemmas.List.Edits.{sets};
-ghost use Rattle.facts.specs.Fact.{Tells};
-ghost use Rattle.words.specs.Put.{put_all};
+ghost use Rattle.std.specs.Prelude.{true, false, ◌⊎◌, ◌≡◌, ◌≤◌, length};
 ghost use Rattle.reading_rules.specs.Reading.{parted, reading};
-ghost use Rattle.piece_count.specs.Differences.{entries, counts_of};
-ghost use Rattle.piece_audit.specs.Audit.{reference, told_by, differing, refused_audit, carried, tally, auditing, listing, Audits, AuditsBytes};
-ghost use Rattle.piece_audit.specs.AuditLaws.{Paired};
+ghost use Rattle.audit_count.specs.Differences.{entries, counts_of};
+ghost use Rattle.audit.specs.Audit.{reference, told_by, differing, tally, auditing, Audits, AuditsBytes};
+ghost use Rattle.audit.specs.AuditLaws.{Paired};
 
 use answers::{Audited, Reading};
-use piece_count::Counts;
-
-fn refused(number: u32, index: usize) -> Audited
-    ensures { result ≡ refused_audit number index }
-{
-    Audited {
-        number,
-        index,
-        base: 0,
-        settings: 0,
-        strays: 0,
-        bits: 0,
-        explained: false,
-    }
-}
-
-fn carry(number: u32, base: u64, t: Counts, explained: bool) -> Audited
-    ensures { result ≡ carried number base t explained }
-{
-    Audited {
-        number,
-        index: 0,
-        base,
-        settings: t.settings,
-        strays: t.strays,
-        bits: t.bits,
-        explained,
-    }
-}
+use audit_count::Counts;
+use audit_places::Unit;
 
 // Whether the shipped file is compared with the vendor image as it is: one of edition 1 (request #109), or one at its own base.
 fn is_plain(r: Reading, base: u64) -> bool
@@ -58,19 +28,7 @@ fn told(r: Reading) -> Reading
     if r.component != 0 {
         return r;
     }
-    let identity = r.identity;
-    Reading {
-        number: r.number,
-        index: r.index,
-        H: r.H,
-        component: r.component,
-        identity,
-        base: r.base,
-        c: 0,
-        z: 0,
-        n: r.n,
-        E: r.E,
-    }
+    Reading { c: 0, z: 0, ..r }
 }
 
 // What is counted of the differences.
@@ -86,9 +44,8 @@ fn measure(vendor: &[u8], shipped: &[u8], r: Reading, base: u64) -> Counts
         };
         return piece_count::count_part(vendor, 0, shipped, 0, shipped.len(), told(r), none);
     }
-    let four = move_image::modular_difference(r.base, base);
-    let eight = move_modules::wide_difference(r.base, base);
-    piece_count::count_moved(vendor, shipped, r, four, eight)
+    let d = move_image::shift_between(r.base, base);
+    piece_count::count_moved(vendor, shipped, r, d)
 }
 
 // The pair is one, and its base legal: the counts, and whether `room` places are enough.
@@ -98,9 +55,9 @@ fn tell(vendor: &[u8], shipped: &[u8], r: Reading, base: u64, room: usize) -> Au
 {
     let t = measure(vendor, shipped, r, base);
     if room < t.settings + t.strays {
-        return carry(20, base, t, false);
+        return audit::carry(20, base, t, false);
     }
-    carry(0, base, t, t.strays == 0)
+    audit::carry(0, base, t, t.strays == 0)
 }
 
 // The whole answer for a list of `room` places, before anything is listed.
@@ -109,88 +66,59 @@ fn survey(vendor: &[u8], shipped: &[u8], r: Reading, room: usize) -> Audited
     ensures { result ≡ auditing vendor.now shipped.now room }
 {
     if r.number != 0 {
-        return refused(r.number, r.index);
+        return audit::refused(r.number, r.index);
     }
     if shipped.len() != vendor.len() {
-        return refused(19, 0);
+        return audit::refused(19, 0);
     }
     let base = words::le32(shipped, r.H + 28) as u64;
     if !header::legal(base, vendor.len()) {
-        return refused(18, 0);
+        return audit::refused(18, 0);
     }
     tell(vendor, shipped, r, base, room)
 }
 
-// Whether an accepted answer has anything to list: equal files aren't walked a second time.
-fn lists(a: Audited) -> bool
-    ensures { Tells result (listing a) }
-{
-    if a.number != 0 {
-        return false;
-    }
-    if a.settings != 0 {
-        return true;
-    }
-    if a.strays != 0 {
-        return true;
-    }
-    false
-}
-
 // Lists what differs.
-fn list(vendor: &[u8], shipped: &[u8], places: &mut [u32], r: Reading, base: u64)
+fn list<U: Unit>(vendor: &[u8], shipped: &[u8], places: &mut [U], r: Reading, base: u64)
     requires paired { Paired vendor.now shipped.now r base }
-    requires shipped_in_bounds { length (differing vendor.now shipped.now) ≤ length places.old }
+    requires shipped_in_bounds { length (differing vendor.now shipped.now) ≤ U.places (length places.old) }
     ensures { places.new
-        ≡ sets places.old 0 (entries (told_by vendor.now) (differing vendor.now shipped.now)) }
+        ≡ U.writing.all places.old 0 (entries (told_by vendor.now) (differing vendor.now shipped.now)) }
 {
     if is_plain(r, base) {
         piece_list::list_part(vendor, 0, shipped, 0, shipped.len(), told(r), places, 0);
         return;
     }
-    let four = move_image::modular_difference(r.base, base);
-    let eight = move_modules::wide_difference(r.base, base);
-    piece_list::list_moved(vendor, shipped, r, four, eight, places);
+    let d = move_image::shift_between(r.base, base);
+    piece_list::list_moved(vendor, shipped, r, d, places);
 }
 
-// The same in a list in which a place is four bytes.
-fn list_bytes(vendor: &[u8], shipped: &[u8], places: &mut [u8], r: Reading, base: u64)
-    requires paired { Paired vendor.now shipped.now r base }
-    requires shipped_in_bounds { length (differing vendor.now shipped.now) ≤ length places.old / 4 }
-    ensures { places.new
-        ≡ put_all 4 places.old 0 (entries (told_by vendor.now) (differing vendor.now shipped.now)) }
-{
-    if is_plain(r, base) {
-        piece_list::list_part_bytes(vendor, 0, shipped, 0, shipped.len(), told(r), places, 0);
-        return;
-    }
-    let four = move_image::modular_difference(r.base, base);
-    let eight = move_modules::wide_difference(r.base, base);
-    piece_list::list_moved_bytes(vendor, shipped, r, four, eight, places);
-}
-
-// Audits a shipped file against the maker's image, whatever both are: what differs, listed in `places`, or a refusal that changes nothing.
-pub fn audit(vendor: &[u8], shipped: &[u8], places: &mut [u32]) -> Audited
-    ensures { Audits vendor.now shipped.now places.old result places.new }
+// The audit with a list of words or of bytes.
+fn audit_in<U: Unit>(vendor: &[u8], shipped: &[u8], places: &mut [U]) -> Audited
+    ensures told { result ≡ auditing vendor.now shipped.now (U.places (length places.old)) }
+    ensures listed { result.number ≡ 0
+        → places.new ≡ U.writing.all places.old 0 (entries (told_by vendor.now) (differing vendor.now shipped.now)) }
+    ensures kept { (result.number ≡ 0 → ⊥) → places.new ≡ places.old }
 {
     let r = reading::read(vendor);
-    let a = survey(vendor, shipped, r, places.len());
-    if !lists(a) {
+    let a = survey(vendor, shipped, r, U::room(places));
+    if !audit::lists(a) {
         return a;
     }
     list(vendor, shipped, places, r, a.base);
     a
 }
 
+// Audits a shipped file against the maker's image, whatever both are: what differs, listed in `places`, or a refusal that changes nothing.
+pub fn audit(vendor: &[u8], shipped: &[u8], places: &mut [u32]) -> Audited
+    ensures { Audits vendor.now shipped.now places.old result places.new }
+{
+    audit_in(vendor, shipped, places)
+}
+
 // The same with a list in which a place is four bytes; bytes after the last whole place are kept.
 pub fn audit_bytes(vendor: &[u8], shipped: &[u8], places: &mut [u8]) -> Audited
     ensures { AuditsBytes vendor.now shipped.now places.old result places.new }
 {
-    let r = reading::read(vendor);
-    let a = survey(vendor, shipped, r, places.len() / 4);
-    if !lists(a) {
-        return a;
-    }
-    list_bytes(vendor, shipped, places, r, a.base);
-    a
+    audit_in(vendor, shipped, places)
 }

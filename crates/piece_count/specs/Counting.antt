@@ -3,8 +3,8 @@
 use Rattle.std.specs.Prelude.{ℕ, ◌+◌, ◌-◌, ◌*◌, ◌≤◌, cond, List, ◌≡◌}
 use Rattle.facts.specs.Fact.{test}
 use Rattle.answers.specs.declared.Reading.{Reading}
-use Rattle.piece_count.specs.declared.Counts.{Counts}
-use Rattle.piece_count.specs.Differences.{differences, setting, settings, strays, bits, flips}
+use Rattle.audit_count.specs.declared.Counts.{Counts}
+use Rattle.audit_count.specs.Differences.{differences, setting, settings, strays, bits, flips}
 
 -- t with the difference at k counted, where the shipped file has y and the reference x
 abbrev pub counted_at : Reading → Counts → ℕ → ℕ → ℕ → Counts

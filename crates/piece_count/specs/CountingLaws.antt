@@ -8,9 +8,9 @@ use Rattle.facts.specs.Fact.{Holds}
 use Rattle.facts.specs.FactLaws.{passes, fails}
 use Rattle.facts.specs.RulesLaws.{by_test}
 use Rattle.answers.specs.declared.Reading.{Reading}
-use Rattle.piece_stretch.specs.Stretch.{SameBytes}
-use Rattle.piece_count.specs.declared.Counts.{Counts}
-use Rattle.piece_count.specs.Differences.{differences, setting, settings, strays, bits, counts_of}
+use Rattle.audit_stretch.specs.Stretch.{SameBytes}
+use Rattle.audit_count.specs.declared.Counts.{Counts}
+use Rattle.audit_count.specs.Differences.{differences, setting, settings, strays, bits, counts_of}
 use Rattle.piece_count.specs.DifferenceLaws.{cut, clear, hit, same_there, same_bits, settings_both, strays_both, bits_both, counts, few, bits_most}
 use Rattle.piece_count.specs.Counting.{counted_at, Few, between, Adds}
 

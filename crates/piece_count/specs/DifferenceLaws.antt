@@ -11,8 +11,8 @@ use Rattle.facts.specs.Fact.{Holds, test}
 use Rattle.facts.specs.FactLaws.{passes, fails}
 use Rattle.facts.specs.RulesLaws.{by_test}
 use Rattle.answers.specs.declared.Reading.{Reading}
-use Rattle.piece_count.specs.Differences.{agrees, differences, setting, settings, strays, flips, bits, entries}
-use Rattle.piece_count.specs.FlipLaws.{flips_most}
+use Rattle.audit_count.specs.Differences.{agrees, differences, setting, settings, strays, flips, bits, entries}
+use Rattle.audit_count.specs.FlipLaws.{flips_most}
 
 -- ---- the positions
 

@@ -1,70 +1,36 @@
--- How entries are written in a list, and what is listed of a stretch of positions.
+-- What is listed of a stretch of positions.
 -- Assumes nothing.
 use Rattle.std.specs.Prelude.{◌≡◌, refl, ℕ, ◌+◌, ◌-◌, ◌*◌, ◌≤◌, ◌<◌, length, get_or, set}
 use Rattle.std.proofs.Common.{sym, ap, ◌∙◌, arith, add-one, length-set, length-append}
 use mathlib.Core.List.{List, [], ◌∷◌, ◌++◌}
-use Rattle.std.proofs.lemmas.List.Edits.{sets}
-use Rattle.words.specs.Put.{put, put_all}
-use Rattle.words.specs.PutLaws.{length_put}
 use Rattle.answers.specs.declared.Reading.{Reading}
-use Rattle.piece_stretch.specs.Stretch.{after, SameBytes, Until}
+use Rattle.audit_places.specs.Writing.{Writing}
+use Rattle.audit_stretch.specs.Stretch.{SameBytes, Until}
+use Rattle.piece_stretch.specs.Stretch.{after}
 use Rattle.audit_pieces.specs.declared.Piece.{Piece}
 use Rattle.audit_pieces.specs.Pieces.{by, Onward}
 use Rattle.audit_pieces.specs.PiecesLaws.{plain_part, held_part}
-use Rattle.piece_count.specs.Differences.{differences, entry, entries}
+use Rattle.audit_count.specs.Differences.{differences, entry, entries}
 use Rattle.piece_count.specs.DifferenceLaws.{entries_both, length_entries, few}
 use Rattle.piece_count.specs.Counting.{between}
 use Rattle.piece_count.specs.CountingLaws.{between_join, between_clear, between_hit, between_same}
 
--- how numbers are written in a list of places: one at a place, and those of a list from a place on
-pub record Writing : Type 0 where
-  pub one : List ℕ → ℕ → ℕ → List ℕ
-  pub all : List ℕ → ℕ → List ℕ → List ℕ
-  pub more : (l : List ℕ) (i v : ℕ) (vs : List ℕ) → all l i (v ∷ vs) ≡ all (one l i v) (i + 1) vs
-  pub long : (l : List ℕ) (i v : ℕ) → length (one l i v) ≡ length l
-  pub none : (l : List ℕ) (i : ℕ) → all l i [] ≡ l
-
--- a place is an element, or four bytes
-pub more_words : (l : List ℕ) (i v : ℕ) (vs : List ℕ) → sets l i (v ∷ vs) ≡ sets (set l i v) (i + 1) vs
-more_words l i v vs = rw add-one
-
-pub more_bytes : (l : List ℕ) (i v : ℕ) (vs : List ℕ) → put_all 4 l (4 * i) (v ∷ vs) ≡ put_all 4 (put 4 l (4 * i) v) (4 * (i + 1)) vs
-unfolding put_all
-more_bytes l i v vs = let e : 4 * (i + 1) ≡ 4 * i + 4 = omega arith in rw e
-
-pub none_bytes : (l : List ℕ) (i : ℕ) → put_all 4 l (4 * i) [] ≡ l
-unfolding put_all
-none_bytes l i = refl
-
-abbrev pub in_words : Writing
-in_words = record { one = set; all = sets; more = more_words; long = length-set; none = λ l i. refl }
-
-abbrev pub in_bytes : Writing
-in_bytes =
-    record {
-      one = λ l i v. put 4 l (4 * i) v;
-      all = λ l i vs. put_all 4 l (4 * i) vs;
-      more = more_bytes;
-      long = λ l i v. length_put 4 l (4 * i) v;
-      none = none_bytes;
-    }
-
 -- m is l with the differences from `from` up to `to` listed from the i-th place on, and j the place after them
-pub record Lists (w : Writing) (ref ys : List ℕ) (r : Reading) (from to : ℕ) (l : List ℕ) (i : ℕ) (m : List ℕ) (j : ℕ) : Type 0 where
+pub record Lists {A : Type 0} (w : Writing A) (ref ys : List ℕ) (r : Reading) (from to : ℕ) (l : List A) (i : ℕ) (m : List A) (j : ℕ) : Type 0 where
   pub long : length m ≡ length l
   pub count : j ≡ i + length (between ref ys from to)
   pub listed : m ≡ w.all l i (entries r (between ref ys from to))
 
 -- ---- one after the other
 
-all_both : (w : Writing) (l : List ℕ) (i : ℕ) (us vs : List ℕ) → w.all l i (us ++ vs) ≡ w.all (w.all l i us) (i + length us) vs
+all_both : {A : Type 0} (w : Writing A) (l : List A) (i : ℕ) (us vs : List ℕ) → w.all l i (us ++ vs) ≡ w.all (w.all l i us) (i + length us) vs
 all_both w l i [] vs = let e : i + 0 ≡ i = omega arith in rw (w.none l i, e)
 all_both w l i (u ∷ us) vs =
     let e : i + length (u ∷ us) ≡ i + 1 + length us = omega arith in
-    rw e (w.more l i u (us ++ vs) ∙ all_both w (w.one l i u) (i + 1) us vs ∙ ap (λ (k : List ℕ). w.all k (i + 1 + length us) vs) (sym (w.more l i u us)))
+    rw e (w.more l i u (us ++ vs) ∙ all_both w (w.one l i u) (i + 1) us vs ∙ ap (λ k. w.all k (i + 1 + length us) vs) (sym (w.more l i u us)))
 
-module _ (w : Writing) (ref ys : List ℕ) (r : Reading) where
-  pub lists_join : (from k to : ℕ) (l m n : List ℕ) (i j h : ℕ) → from ≤ k → k ≤ to → Lists w ref ys r from k l i m j
+module _ {A : Type 0} (w : Writing A) (ref ys : List ℕ) (r : Reading) where
+  pub lists_join : (from k to : ℕ) (l m n : List A) (i j h : ℕ) → from ≤ k → k ≤ to → Lists w ref ys r from k l i m j
       → Lists w ref ys r k to m j n h → Lists w ref ys r from to l i n h
   lists_join from k to l m n i j h low high a b =
       let one = between ref ys from k in
@@ -77,13 +43,13 @@ module _ (w : Writing) (ref ys : List ℕ) (r : Reading) where
             (b.listed ∙ rw (a.count, a.listed, ← length_entries r one) (sym (all_both w l i (entries r one) (entries r two))));
       }
 
-  pub lists_clear : (from k : ℕ) (l : List ℕ) (i : ℕ) → from ≤ k → SameBytes ref ys from k → Lists w ref ys r from k l i l i
+  pub lists_clear : (from k : ℕ) (l : List A) (i : ℕ) → from ≤ k → SameBytes ref ys from k → Lists w ref ys r from k l i l i
   unfolding entries
   lists_clear from k l i h same =
       let e = between_clear ref ys from k h same in
       record { long = refl; count = rw e (omega arith); listed = rw e (sym (w.none l i)) }
 
-  pub lists_hit : (k : ℕ) (l : List ℕ) (i : ℕ) → (get_or ys k 0 ≡ get_or ref k 0 → ⊥)
+  pub lists_hit : (k : ℕ) (l : List A) (i : ℕ) → (get_or ys k 0 ≡ get_or ref k 0 → ⊥)
       → Lists w ref ys r k (k + 1) l i (w.one l i (entry r k)) (i + 1)
   unfolding entries
   lists_hit k l i differs =
@@ -95,12 +61,12 @@ module _ (w : Writing) (ref ys : List ℕ) (r : Reading) where
       }
 
   -- at the end all are listed
-  pub lists_all : (l m : List ℕ) (j : ℕ) → Lists w ref ys r 0 (length ys) l 0 m j
+  pub lists_all : (l m : List A) (j : ℕ) → Lists w ref ys r 0 (length ys) l 0 m j
       → m ≡ w.all l 0 (entries r (differences ref ys 0 (length ys)))
   lists_all l m j a = let e : length ys - 0 ≡ length ys = omega arith in rw e at a.listed
 
   -- there is a place for one more
-  pub place_left : (from k to : ℕ) (l m : List ℕ) (i j room : ℕ) → from ≤ k → k < to → (get_or ys k 0 ≡ get_or ref k 0 → ⊥)
+  pub place_left : (from k to : ℕ) (l m : List A) (i j room : ℕ) → from ≤ k → k < to → (get_or ys k 0 ≡ get_or ref k 0 → ⊥)
       → Lists w ref ys r from k l i m j → i + length (between ref ys from to) ≤ room → j < room
   place_left from k to l m i j room low less differs a fits =
       let one = between ref ys from k in
@@ -113,11 +79,11 @@ module _ (w : Writing) (ref ys : List ℕ) (r : Reading) where
       omega (arith, a.count, all, some, hit)
 
   -- no more are listed than positions are passed
-  pub lists_few : (from k : ℕ) (l m : List ℕ) (i j : ℕ) → from ≤ k → i ≤ from → Lists w ref ys r from k l i m j → j ≤ k
+  pub lists_few : (from k : ℕ) (l m : List A) (i j : ℕ) → from ≤ k → i ≤ from → Lists w ref ys r from k l i m j → j ≤ k
   lists_few from k l m i j h g a = omega (arith, a.count, few ref ys from (k - from))
 
   -- and for a stretch
-  pub room_left : (k to end : ℕ) (l m : List ℕ) (j room : ℕ) → k ≤ to → to ≤ end → Lists w ref ys r 0 k l 0 m j
+  pub room_left : (k to end : ℕ) (l m : List A) (j room : ℕ) → k ≤ to → to ≤ end → Lists w ref ys r 0 k l 0 m j
       → length (between ref ys 0 end) ≤ room → j + length (between ref ys k to) ≤ room
   room_left k to end l m j room h g a fits =
       let one = between ref ys 0 k in
@@ -129,50 +95,55 @@ module _ (w : Writing) (ref ys : List ℕ) (r : Reading) where
       omega (arith, a.count, all, left)
 
 -- a reference that agrees there is listed the same
-pub lists_same : (w : Writing) (a b ys : List ℕ) (r : Reading) (from to : ℕ) (l : List ℕ) (i : ℕ) (m : List ℕ) (j : ℕ)
+pub lists_same : {A : Type 0} (w : Writing A) (a b ys : List ℕ) (r : Reading) (from to : ℕ) (l : List A) (i : ℕ) (m : List A) (j : ℕ)
     → ((k : ℕ) → from ≤ k → k < to → get_or a k 0 ≡ get_or b k 0) → Lists w a ys r from to l i m j → Lists w b ys r from to l i m j
 lists_same w a b ys r from to l i m j same x =
     let e = between_same a b ys from to same in
     record { long = x.long; count = rw e at x.count; listed = rw e at x.listed }
 
--- ---- the loop over a stretch: `at` is the next difference or the end, and those before it are listed
+-- ---- the loop over a stretch: the differences before k are listed
 
-module _ (w : Writing) (ref ys : List ℕ) (r : Reading) (from to : ℕ) (l : List ℕ) (i : ℕ) where
-  pub record Listing (m : List ℕ) (j at : ℕ) : Type 0 where
-    pub low : from ≤ at
-    pub high : at ≤ to
-    pub hit : at < to → get_or ys at 0 ≡ get_or ref at 0 → ⊥
-    pub lists : Lists w ref ys r from at l i m j
+module _ {A : Type 0} (w : Writing A) (ref ys : List ℕ) (r : Reading) (from to : ℕ) (l : List A) (i : ℕ) where
+  pub record Listing (m : List A) (j k : ℕ) : Type 0 where
+    pub low : from ≤ k
+    pub high : k ≤ to
+    pub lists : Lists w ref ys r from k l i m j
 
-  pub listing_start : (k : ℕ) → Until ref ys from to k → Listing l i k
-  listing_start k u =
-      record { low = u.onward; high = u.most; hit = u.found; lists = lists_clear w ref ys r from k l i u.onward u.clear }
+  pub listing_start : from ≤ to → Listing l i from
+  listing_start h =
+      record { low = omega arith; high = h; lists = lists_clear w ref ys r from from l i (omega arith) (λ k a b. absurd (omega arith)) }
 
-  module _ (m : List ℕ) (j at : ℕ) (is : Listing m j at) where
-    pub listing_on : (k : ℕ) → at < to → Until ref ys (at + 1) to k → Listing (w.one m j (entry r at)) (j + 1) k
-    listing_on k less u =
-        let new = w.one m j (entry r at) in
-        let one = lists_hit w ref ys r at m j (is.hit less) in
-        let two = lists_join w ref ys r from at (at + 1) l m new i j (j + 1) is.low (omega arith) is.lists one in
-        let rest = lists_clear w ref ys r (at + 1) k new (j + 1) u.onward u.clear in
-        record {
-          low = omega (arith, is.low, u.onward);
-          high = u.most;
-          hit = u.found;
-          lists = lists_join w ref ys r from (at + 1) k l new new i (j + 1) (j + 1) (omega (arith, is.low)) u.onward two rest;
-        }
+  module _ (m : List A) (j k : ℕ) (is : Listing m j k) where
+    -- up to the next difference
+    module _ (at : ℕ) (less : at < to) (u : Until ref ys k to at) where
+      pub listing_at : Lists w ref ys r from at l i m j
+      listing_at =
+          lists_join w ref ys r from k at l m m i j j is.low u.onward is.lists (lists_clear w ref ys r k at m j u.onward u.clear)
 
-    -- a place for the difference that it has come to
-    pub listing_room : (room : ℕ) → at < to → i + length (between ref ys from to) ≤ room → j < room
-    listing_room room less = place_left w ref ys r from at to l m i j room is.low less (is.hit less) is.lists
+      pub listing_on : Listing (w.one m j (entry r at)) (j + 1) (at + 1)
+      listing_on =
+          record {
+            low = omega (arith, is.low, u.onward);
+            high = omega arith;
+            lists = lists_join w ref ys r from at (at + 1) l m (w.one m j (entry r at)) i j (j + 1) (omega (arith, is.low, u.onward)) (omega arith)
+                listing_at (lists_hit w ref ys r at m j (u.found less));
+          }
 
-    pub listing_end : to ≤ at → Lists w ref ys r from to l i m j
-    listing_end h = let e : at ≡ to = omega (arith, is.high) in rw e at is.lists
+      -- a place for it
+      pub listing_room : (room : ℕ) → i + length (between ref ys from to) ≤ room → j < room
+      listing_room room = place_left w ref ys r from at to l m i j room (omega (arith, is.low, u.onward)) less (u.found less) listing_at
+
+      -- and no more places than positions
+      pub listing_few : i ≤ from → j ≤ at
+      listing_few h = lists_few w ref ys r from at l m i j (omega (arith, is.low, u.onward)) h listing_at
+
+    pub listing_end : SameBytes ref ys k to → Lists w ref ys r from to l i m j
+    listing_end same = lists_join w ref ys r from k to l m m i j j is.low is.high is.lists (lists_clear w ref ys r k to m j is.high same)
 
 -- ---- the loop over the pieces
 
-module _ (w : Writing) {xs : List ℕ} {r : Reading} {four eight : ℕ} {p q : Piece} {ms : List ℕ} (on : Onward xs r four eight p q ms)
-    (ys l m : List ℕ) (i : ℕ) (before : Lists w (by xs r four eight) ys r 0 p.to l 0 m i) where
+module _ {A : Type 0} (w : Writing A) {xs : List ℕ} {r : Reading} {four eight : ℕ} {p q : Piece} {ms : List ℕ} (on : Onward xs r four eight p q ms)
+    (ys : List ℕ) (l m : List A) (i : ℕ) (before : Lists w (by xs r four eight) ys r 0 p.to l 0 m i) where
   -- room for what is left is room for each part of the next piece
   module _ (room : ℕ) (long : length ys ≡ length xs) (fits : length (differences (by xs r four eight) ys 0 (length ys)) ≤ room) where
     all_fit : length (between (by xs r four eight) ys 0 (length ys)) ≤ room
@@ -184,19 +155,19 @@ module _ (w : Writing) {xs : List ℕ} {r : Reading} {four eight : ℕ} {p q : P
         (room_left w (by xs r four eight) ys r p.to q.from (length ys) l m i room on.low
         (omega (arith, on.high, on.stands.most, long)) before all_fit)
 
-    pub held_fits : (n : List ℕ) (j : ℕ) → Lists w (after 0 xs) ys r p.to q.from m i n j
+    pub held_fits : (n : List A) (j : ℕ) → Lists w (after 0 xs) ys r p.to q.from m i n j
         → j + length (between (after q.from ms) ys q.from q.to) ≤ room
     held_fits n j plain =
         rw (between_same (after q.from ms) (by xs r four eight) ys q.from q.to (held_part on))
         (room_left w (by xs r four eight) ys r q.from q.to (length ys) l n j room on.high
         (omega (arith, on.stands.most, long)) (plain_on n j plain) all_fit)
       where
-        plain_on : (n : List ℕ) (j : ℕ) → Lists w (after 0 xs) ys r p.to q.from m i n j → Lists w (by xs r four eight) ys r 0 q.from l 0 n j
+        plain_on : (n : List A) (j : ℕ) → Lists w (after 0 xs) ys r p.to q.from m i n j → Lists w (by xs r four eight) ys r 0 q.from l 0 n j
         plain_on n j a =
             lists_join w (by xs r four eight) ys r 0 p.to q.from l m n 0 i j (omega arith) on.low before
             (lists_same w (after 0 xs) (by xs r four eight) ys r p.to q.from m i n j (plain_part on) a)
 
-  pub pieces_on : (n o : List ℕ) (j h : ℕ) → Lists w (after 0 xs) ys r p.to q.from m i n j
+  pub pieces_on : (n o : List A) (j h : ℕ) → Lists w (after 0 xs) ys r p.to q.from m i n j
       → Lists w (after q.from ms) ys r q.from q.to n j o h → Lists w (by xs r four eight) ys r 0 q.to l 0 o h
   pieces_on n o j h a b =
       let ref = by xs r four eight in

@@ -1,19 +1,8 @@
--- Where two lists of bytes agree, and where they first differ.
+-- A list of bytes that may start at a later position.
 -- Assumes nothing.
-use Rattle.std.specs.Prelude.{ℕ, zero, suc, ◌≤◌, ◌<◌, List, ◌∷◌, ◌≡◌, get_or}
+use Rattle.std.specs.Prelude.{ℕ, zero, suc, List, ◌∷◌}
 
 -- a list whose first element stands at position o
 unfoldable pub after : ℕ → List ℕ → List ℕ
 after zero a = a
 after (suc o) a = 0 ∷ after o a
-
--- a and b agree from `from` on up to k
-abbrev pub SameBytes : List ℕ → List ℕ → ℕ → ℕ → Type 0
-SameBytes a b from k = (i : ℕ) → from ≤ i → i < k → get_or b i 0 ≡ get_or a i 0
-
--- k is the first position from `from` on and below `to` at which the two differ, or `to`
-pub record Until (a b : List ℕ) (from to k : ℕ) : Type 0 where
-  pub onward : from ≤ k
-  pub most : k ≤ to
-  pub clear : SameBytes a b from k
-  pub found : k < to → get_or b k 0 ≡ get_or a k 0 → ⊥

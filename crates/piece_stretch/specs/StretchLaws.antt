@@ -1,26 +1,9 @@
 -- Laws of stretches that agree.
 -- Assumes nothing.
-use Rattle.std.specs.Prelude.{◌≡◌, refl, List, ℕ, zero, suc, ◌+◌, ◌-◌, ◌*◌, ◌^◌, ◌≤◌, ◌<◌, length, get_or}
-use Rattle.std.proofs.Common.{sym, ◌∙◌, arith}
-use Rattle.std.proofs.Math.Decide.{dec_lt}
-use Rattle.words.specs.Le.{le, Bytes}
-use Rattle.words.specs.PutLaws.{le_one}
-use Rattle.piece_stretch.specs.Stretch.{after, SameBytes, Until}
-
--- two stretches of agreement are one
-pub same_join : (a b : List ℕ) (from k to : ℕ) → SameBytes a b from k → SameBytes a b k to → SameBytes a b from to
-same_join a b from k to s t i h l = elim (dec_lt i k) [ yes g ↦ s i h g | no g ↦ t i (omega arith) l ]
-
--- and so where the second starts inside the first
-pub same_over : (a b : List ℕ) (from at k to : ℕ) → at ≤ k → SameBytes a b from k → SameBytes a b at to → SameBytes a b from to
-same_over a b from at k to m s t = same_join a b from k to s (λ i h l. t i (omega arith) l)
-
--- equal words are equal bytes
-pub same_le : (m : ℕ) (a b : List ℕ) (at : ℕ) → Bytes a → Bytes b → le m a at ≡ le m b at → SameBytes a b at (at + m)
-same_le m a b at ba bb e i h l =
-    let same = le_one m a b at ba bb e in
-    let s : at + (i - at) ≡ i = omega arith in
-    sym (rw s at (same.same (i - at) (omega arith)))
+use Rattle.std.specs.Prelude.{◌≡◌, refl, List, ℕ, zero, suc, ◌+◌, ◌-◌, ◌≤◌, ◌<◌, get_or, slice_range}
+use Rattle.std.proofs.Common.{sym, ◌∙◌, arith, get_or-take, get_or-drop}
+use Rattle.audit_stretch.specs.Stretch.{SameBytes, Until}
+use Rattle.piece_stretch.specs.Stretch.{after}
 
 -- ---- a list whose first element stands at position o
 
@@ -34,30 +17,37 @@ get_d_after zero a k h = let e : k - 0 ≡ k = omega arith in rw e
 get_d_after (suc o) a zero h = absurd (omega arith)
 get_d_after (suc o) a (suc k) h = let e : suc k - suc o ≡ k - o = omega arith in rw e (get_d_after o a k (omega arith))
 
-pub le_after : (m o : ℕ) (a : List ℕ) (k : ℕ) → o ≤ k → le m (after o a) k ≡ le m a (k - o)
-unfolding le
-le_after zero o a k h = refl
-le_after (suc m) o a k h =
-    let e : k + m - o ≡ k - o + m = omega arith in
-    rw (le_after m o a k h, get_d_after o a (k + m) (omega arith), e)
-
-pub bytes_after : (o : ℕ) (a : List ℕ) → Bytes a → Bytes (after o a)
-unfolding after Bytes
-bytes_after zero a b k = b k
-bytes_after (suc o) a b zero = omega arith
-bytes_after (suc o) a b (suc k) = bytes_after o a b k
-
 -- ---- where the two first differ
 
-pub until_here : (a b : List ℕ) (to : ℕ) → Until a b to to to
-until_here a b to =
+get_in : (l : List ℕ) (from to i : ℕ) → i < to - from → get_or (slice_range l from to) i 0 ≡ get_or l (from + i) 0
+get_in l from to i h = get_or-take (to - from) _ i 0 h ∙ get_or-drop from l i 0
+
+-- the stretch looked at by itself
+pub until_part : (a b : List ℕ) (o from to k : ℕ) → o ≤ from → from ≤ to
+    → Until (slice_range a (from - o) (to - o)) (slice_range b from to) 0 (to - from) k → Until (after o a) b from to (from + k)
+until_part a b o from to k h l u =
     record {
       onward = omega arith;
-      most = omega arith;
-      clear = λ i h l. absurd (omega arith);
-      found = λ h. absurd (omega arith);
+      most = omega (arith, u.most);
+      clear = λ i g m.
+          let s : from + (i - from) ≡ i = omega arith in
+          rw s at (sym (second (i - from) (omega (arith, u.most))) ∙ u.clear (i - from) (omega arith) (omega arith) ∙ first (i - from) (omega (arith, u.most)));
+      found = λ g e. u.found (omega arith) (second k (omega arith) ∙ e ∙ sym (first k (omega arith)));
     }
+  where
+    first : (i : ℕ) → i < to - from → get_or (slice_range a (from - o) (to - o)) i 0 ≡ get_or (after o a) (from + i) 0
+    first i g =
+        let s : from - o + i ≡ from + i - o = omega arith in
+        get_in a (from - o) (to - o) i (omega arith) ∙ rw s (sym (get_d_after o a (from + i) (omega arith)))
 
-pub until_at : (a b : List ℕ) (from to : ℕ) → from ≤ to → (get_or b from 0 ≡ get_or a from 0 → ⊥) → Until a b from to from
-until_at a b from to h differs =
-    record { onward = omega arith; most = h; clear = λ i g l. absurd (omega arith); found = λ l. differs }
+    second : (i : ℕ) → i < to - from → get_or (slice_range b from to) i 0 ≡ get_or b (from + i) 0
+    second i g = get_in b from to i g
+
+pub same_part : (a b : List ℕ) (o from to : ℕ) → o ≤ from → from ≤ to
+    → SameBytes (slice_range a (from - o) (to - o)) (slice_range b from to) 0 (to - from) → SameBytes (after o a) b from to
+same_part a b o from to h l same =
+    let n = to - from in
+    let u : Until (slice_range a (from - o) (to - o)) (slice_range b from to) 0 n n =
+    record { onward = omega arith; most = omega arith; clear = same; found = λ g. absurd (omega arith) } in
+    let e : from + n ≡ to = omega arith in
+    rw e at (until_part a b o from to n h l u).clear

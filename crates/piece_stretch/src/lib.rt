@@ -1,153 +1,19 @@
-// Document 01, "The audit": two stretches of bytes compared, 32 or eight at a time where they are the same. The first starts at position o:
-// its byte at k is a[k - o], and the second's is b[k].
+// Document 01, "The audit": two stretches of bytes compared. The first starts at position o: its byte at k is a[k - o], and the second's is b[k].
 #![tactic(auto)]
 
-ghost use Rattle.std.specs.Prelude.{true, ◌≡◌, ◌+◌, ◌≤◌, length};
-ghost use Rattle.piece_stretch.specs.Stretch.{after, SameBytes, Until};
+ghost use Rattle.std.specs.Prelude.{◌+◌, ◌≤◌, length};
+ghost use Rattle.audit_stretch.specs.Stretch.{Differs};
+ghost use Rattle.piece_stretch.specs.Stretch.{after};
 
-// The bits at which the words at k differ.
-fn turned(a: &[u8], o: usize, b: &[u8], k: usize) -> usize
-    requires { (o ≤ k) × (k + 8 ≤ o + length a.now) × (k + 8 ≤ length b.now) }
-    ensures { result ≡ 0 → SameBytes (after o a.now) b.now k (k + 8) }
-{
-    words::le64(a, k - o) ^ words::le64(b, k)
-}
-
-// The same of the words of four bytes at k.
-fn turned_half(a: &[u8], o: usize, b: &[u8], k: usize) -> usize
-    requires { (o ≤ k) × (k + 4 ≤ o + length a.now) × (k + 4 ≤ length b.now) }
-    ensures { result ≡ 0 → SameBytes (after o a.now) b.now k (k + 4) }
-{
-    words::le32(a, k - o) ^ words::le32(b, k)
-}
-
-// Whether the bytes from `from` on up to `to`, 16 to 32 of them, are the same in both: the first 16 and the last, which may overlap.
-fn same_block(a: &[u8], o: usize, b: &[u8], from: usize, to: usize) -> bool
-    requires { (from + 16 ≤ to) × (to ≤ from + 32) × (o ≤ from) × (to ≤ o + length a.now) × (to ≤ length b.now) }
-    ensures { result ≡ true → SameBytes (after o a.now) b.now from to }
-{
-    let w = turned(a, o, b, from);
-    let x = turned(a, o, b, from + 8);
-    let y = turned(a, o, b, to - 16);
-    let z = turned(a, o, b, to - 8);
-    w | x | y | z == 0
-}
-
-// The same of 8 to 16 bytes: the first eight and the last.
-fn same_pair(a: &[u8], o: usize, b: &[u8], from: usize, to: usize) -> bool
-    requires { (from + 8 ≤ to) × (to ≤ from + 16) × (o ≤ from) × (to ≤ o + length a.now) × (to ≤ length b.now) }
-    ensures { result ≡ true → SameBytes (after o a.now) b.now from to }
-{
-    turned(a, o, b, from) | turned(a, o, b, to - 8) == 0
-}
-
-// The same of 4 to 8 bytes: the first four and the last.
-fn same_halves(a: &[u8], o: usize, b: &[u8], from: usize, to: usize) -> bool
-    requires { (from + 4 ≤ to) × (to ≤ from + 8) × (o ≤ from) × (to ≤ o + length a.now) × (to ≤ length b.now) }
-    ensures { result ≡ true → SameBytes (after o a.now) b.now from to }
-{
-    turned_half(a, o, b, from) | turned_half(a, o, b, to - 4) == 0
-}
-
-// The same of any stretch up to 32 bytes; one of fewer than four is left open.
-fn same_short(a: &[u8], o: usize, b: &[u8], from: usize, to: usize) -> bool
-    requires { (from ≤ to) × (to ≤ from + 32) × (o ≤ from) × (to ≤ o + length a.now) × (to ≤ length b.now) }
-    ensures { result ≡ true → SameBytes (after o a.now) b.now from to }
-{
-    let n = to - from;
-    if n >= 16 {
-        return same_block(a, o, b, from, to);
-    }
-    if n >= 8 {
-        return same_pair(a, o, b, from, to);
-    }
-    if n >= 4 {
-        return same_halves(a, o, b, from, to);
-    }
-    false
-}
-
-// Passes equal bytes from `from` on, 32 at a time; never past `to`, nor past a difference.
-fn skip_blocks(a: &[u8], o: usize, b: &[u8], from: usize, to: usize) -> usize
+// The first position from `from` on and below `to` at which the two differ; the first byte is likely to, and is looked at by itself.
+pub fn next(a: &[u8], o: usize, b: &[u8], from: usize, to: usize) -> Option<usize>
     requires { (from ≤ to) × (o ≤ from) × (to ≤ o + length a.now) × (to ≤ length b.now) }
-    ensures { (from ≤ result) × (result ≤ to) × SameBytes (after o a.now) b.now from result }
+    ensures { Differs (after o a.now) b.now from to result }
 {
-    let mut k = from;
-    while to - k >= 32 {
-        if !same_block(a, o, b, k, k + 32) {
-            return k;
-        }
-        k += 32;
+    let first = &a[from - o..to - o];
+    let second = &b[from..to];
+    match audit_stretch::next(first, second, 0, to - from) {
+        Some(k) => Some(from + k),
+        None => None,
     }
-    k
-}
-
-// The same, eight at a time.
-fn skip_words(a: &[u8], o: usize, b: &[u8], from: usize, to: usize) -> usize
-    requires { (from ≤ to) × (o ≤ from) × (to ≤ o + length a.now) × (to ≤ length b.now) }
-    ensures { (from ≤ result) × (result ≤ to) × SameBytes (after o a.now) b.now from result }
-{
-    let mut k = from;
-    while to - k >= 8 {
-        if turned(a, o, b, k) != 0 {
-            return k;
-        }
-        k += 8;
-    }
-    k
-}
-
-// Whether the bytes left from k on, fewer than a block, are the same: what is compared may overlap bytes that were passed.
-fn same_rest(a: &[u8], o: usize, b: &[u8], from: usize, k: usize, to: usize) -> bool
-    requires { (from ≤ k) × (k ≤ to) × (o ≤ from) × (to ≤ o + length a.now) × (to ≤ length b.now) }
-    ensures { result ≡ true → SameBytes (after o a.now) b.now k to }
-{
-    if to - k >= 32 {
-        return false;
-    }
-    if to - from >= 32 {
-        return same_block(a, o, b, to - 32, to);
-    }
-    same_short(a, o, b, from, to)
-}
-
-// Passes equal bytes, as many as can be passed in such steps.
-fn skip(a: &[u8], o: usize, b: &[u8], from: usize, to: usize) -> usize
-    requires { (from ≤ to) × (o ≤ from) × (to ≤ o + length a.now) × (to ≤ length b.now) }
-    ensures { (from ≤ result) × (result ≤ to) × SameBytes (after o a.now) b.now from result }
-{
-    let k = skip_blocks(a, o, b, from, to);
-    if same_rest(a, o, b, from, k, to) {
-        return to;
-    }
-    skip_words(a, o, b, k, to)
-}
-
-// The first position from `from` on and below `to` at which the two differ, or `to`.
-pub fn first_difference(a: &[u8], o: usize, b: &[u8], from: usize, to: usize) -> usize
-    requires { (from ≤ to) × (o ≤ from) × (to ≤ o + length a.now) × (to ≤ length b.now) }
-    ensures { Until (after o a.now) b.now from to result }
-{
-    let mut k = skip(a, o, b, from, to);
-    while k < to {
-        if b[k] != a[k - o] {
-            return k;
-        }
-        k += 1;
-    }
-    k
-}
-
-// The same where the first byte is likely to differ too: it is looked at by itself.
-pub fn next(a: &[u8], o: usize, b: &[u8], from: usize, to: usize) -> usize
-    requires { (from ≤ to) × (o ≤ from) × (to ≤ o + length a.now) × (to ≤ length b.now) }
-    ensures { Until (after o a.now) b.now from to result }
-{
-    if from == to {
-        return to;
-    }
-    if b[from] != a[from - o] {
-        return from;
-    }
-    first_difference(a, o, b, from, to)
 }

@@ -31,20 +31,16 @@ fn from_entries(image: &[u8], H: usize, t: usize, n: usize, c: usize, z: usize) 
     requires { (H + 80 ≤ length image.now) × (t + 4 * n ≤ length image.now) × (c + z ≤ length image.now) × (28 ≤ H) × Walkable image.now (le 8 image.now 32) (H - 28) × (n ≤ 1024) }
     ensures { result ≡ run refusal (from_entries image.now H t n c z) }
 {
-    let a = table_scans::first_refused(image, t, n, 12);
-    if a < n {
+    if let Some(a) = table_scans::first_refused(image, t, n, 12) {
         return reading_rules::refused(12, a);
     }
-    let b = table_scans::first_refused(image, t, n, 22);
-    if b < n {
+    if let Some(b) = table_scans::first_refused(image, t, n, 22) {
         return reading_rules::refused(22, b);
     }
-    let d = table_scans::first_refused(image, t, n, 13);
-    if d < n {
+    if let Some(d) = table_scans::first_refused(image, t, n, 13) {
         return reading_rules::refused(13, d);
     }
-    let o = table_scans::first_overlap(image, t, n, c, z);
-    if o < n {
+    if let Some(o) = table_scans::first_overlap(image, t, n, c, z) {
         return reading_rules::refused(14, o);
     }
     from_modules(image, H, t, n, c, z)

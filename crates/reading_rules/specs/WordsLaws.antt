@@ -12,7 +12,7 @@ use Rattle.words.specs.Le.{le}
 use Rattle.moves.specs.Moves.{Words, Beside, Spread}
 use Rattle.table.specs.Passes.{place}
 use Rattle.items.specs.declared.Item.{Item}
-use Rattle.items.specs.Items.{word, each, apart, apart_from, inside, words_in, nth, listed, word_kind}
+use Rattle.items.specs.Items.{word, each, apart, apart_from, inside, words_in, nth, listed, word_kind, kind_number}
 use Rattle.items.specs.ItemsLaws.{each_so, each_both, each_join, apart_join}
 use Rattle.items.specs.Judged.{off, sound, placed}
 use Rattle.items.specs.Shapes.{from}
@@ -104,7 +104,7 @@ module _ (xs : List ℕ) (r : Reading) (g : Guaranteed xs r) where
 
   -- each later one stands clear of the tables and of the region
   abbrev clear_of : Item → Fact
-  clear_of x = deny (x.kind ≡? word_kind) or (r.E ≤? x.at and off r.c r.z x)
+  clear_of x = deny (kind_number x.kind ≡? word_kind) or (r.E ≤? x.at and off r.c r.z x)
 
   clear_words : Holds (each clear_of (patch_items xs (entries_at r) r.n ++ walk))
   clear_words =

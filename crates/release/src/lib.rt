@@ -4,6 +4,7 @@
 ghost use Rattle.release.specs.Release.{Releases};
 
 use answers::Moved;
+use sheet::Sheet;
 
 // Sets the bytes of an owner's sheet in an image and moves it to a base, whatever all of these are, or refuses and changes nothing.
 pub fn release(image: &mut [u8], sheet: &[u8], base: u64, owners: &[u8], owner: u64) -> Moved
@@ -17,7 +18,7 @@ pub fn release(image: &mut [u8], sheet: &[u8], base: u64, owners: &[u8], owner: 
     if v.number != 0 {
         return v;
     }
-    sheet_bodies::set_by(image, r, sheet);
+    sheet_bodies::set_by(image, r, &Sheet::known(sheet));
     move_image::move_to(image, r, base);
     v
 }

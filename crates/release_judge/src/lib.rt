@@ -10,24 +10,25 @@ ghost use Rattle.owners.specs.Owners.{list_fits};
 ghost use Rattle.release_judge.specs.Judged.{name_rules, release_rules};
 
 use answers::{Moved, Reading};
+use sheet::Sheet;
 
 // Rules 16, 17, 24 and 18, where 15 and 23 are passed.
 fn judge_names(
     r: Reading,
     size: usize,
-    sheet: &[u8],
+    sheet: &Sheet,
     base: u64,
     owners: &[u8],
     owner: usize,
 ) -> Moved
-    requires { (r.base ≤ 2 ^ 32) × Holds (sheet_fits sheet.now) × Holds (list_fits owners.now r.z) }
+    requires { (r.base ≤ 2 ^ 32) × Holds (list_fits owners.now r.z) }
     ensures { result ≡ run refused_move (name_rules r size sheet.now base owners.now owner) }
 {
     let k = r.identity;
-    if !sheet::names(sheet, k) {
+    if !sheet.names(k) {
         return move_answer::refused(16, 0);
     }
-    if !sheet::fields_fit(sheet, r.z) {
+    if !sheet.fields_fit(r.z) {
         return move_answer::refused(17, 0);
     }
     if !owners_check::fields_owned(sheet, owners, owner) {
@@ -44,11 +45,12 @@ pub fn judge(r: Reading, size: usize, sheet: &[u8], base: u64, owners: &[u8], ow
     requires { r.base ≤ 2 ^ 32 }
     ensures { result ≡ run refused_move (release_rules r size sheet.now base owners.now owner) }
 {
-    if !sheet::sheet_fits(sheet) {
-        return move_answer::refused(15, 0);
-    }
+    let read = match Sheet::of(sheet) {
+        None => return move_answer::refused(15, 0),
+        Some(read) => read,
+    };
     if !owners::owners_fit(owners, owner, r.z) {
         return move_answer::refused(23, 0);
     }
-    judge_names(r, size, sheet, base, owners, owner)
+    judge_names(r, size, &read, base, owners, owner)
 }

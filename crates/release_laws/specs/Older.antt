@@ -1,8 +1,8 @@
 -- Request #102 and the sheets written before it, which have zeros in bytes 14 and 15: rule 15 takes them as before, an image without an
 -- extended number answers them as before, and one with another number than 0 refuses them with 16.
 -- Assumes nothing.
-use Rattle.std.specs.Prelude.{ℕ, ◌+◌, ◌*◌, ◌≤◌, ◌<◌, List, ◌≡◌, length}
-use Rattle.std.proofs.Common.{sym, ap, ◌∙◌, arith}
+use Rattle.std.specs.Prelude.{ℕ, ◌+◌, ◌*◌, ◌<◌, List, ◌≡◌, length}
+use Rattle.std.proofs.Common.{sym, ap, ◌∙◌}
 use Rattle.facts.specs.Fact.{Fact, Holds, ◌≤?◌, ◌≡?◌, ◌and◌, every}
 use Rattle.facts.specs.FactLaws.{passes, fails, same_test}
 use Rattle.facts.specs.Rules.{Rules, answer, rule, run}

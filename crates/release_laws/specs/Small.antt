@@ -2,25 +2,22 @@
 -- module's two words and these two bytes are others, and no other byte is; by the other owner it is refused. The image of header revision 6 takes the sheet that
 -- has its extended number, and refuses the sample, which has 0.
 -- Assumes nothing.
-use Rattle.std.specs.Prelude.{ℕ, ◌≤◌, List, ◌++◌, ◌≡◌, refl, negsuc, length}
-use Rattle.std.proofs.Common.{sym, ap, ◌∙◌, arith}
-use Rattle.facts.specs.Fact.{Holds, test, all_below}
+use Rattle.std.specs.Prelude.{ℕ, List, ◌++◌, ◌≡◌, negsuc, length}
+use Rattle.std.proofs.Common.{ap, ◌∙◌}
+use Rattle.facts.specs.Fact.{test, all_below}
 use Rattle.facts.specs.Rules.{run}
 use Rattle.words.specs.Le.{le}
-use Rattle.words.specs.Put.{digit, put, add}
+use Rattle.words.specs.Put.{digit}
 use Rattle.words.specs.Number.{number, zeros}
-use Rattle.table.specs.Entry.{place_of}
-use Rattle.table.specs.Passes.{place}
 use Rattle.answers.specs.declared.Reading.{Reading}
 use Rattle.reading_rules.specs.Reading.{reading2, Read2}
 use Rattle.reading_rules.specs.Small.{small, later, setting_bytes, small_reads_2, six_reads_2, five_reads_2}
 use Rattle.answers.specs.declared.Moved.{Moved}
-use Rattle.moves.specs.Moves.{difference, moved_to}
 use Rattle.move_image.specs.Moving.{move_to}
 use Rattle.move_answer.specs.MoveAnswer.{refused_move, accepted_move}
 use Rattle.move_image.specs.Small.{small_move, small_moves}
 use Rattle.sheet.specs.Sheet.{body_at}
-use Rattle.sheet_bodies.specs.Set.{copied, written, set_by, set_image}
+use Rattle.sheet_bodies.specs.Set.{set_image}
 use Rattle.sheet_bodies.specs.Small.{sample, sample_for, small_set}
 use Rattle.release.specs.Release.{releasing, two_steps, released_image}
 use Rattle.release_judge.specs.Judged.{name_rules, release_rules}

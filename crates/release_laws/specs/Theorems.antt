@@ -1,9 +1,8 @@
 -- Demand 2 for a release, where it is accepted: the two steps in either order, which byte is whose, that the image afterwards reads at the
 -- new base, what an empty sheet and the present base do, and that going there and back restores the image.
 -- Assumes nothing.
-use Rattle.std.specs.Prelude.{ℕ, suc, ◌+◌, ◌-◌, ◌%◌, ◌^◌, ◌≤◌, ◌<◌, List, ◌⊎◌, ◌≡◌, refl, length, get_or, take, drop}
-use Rattle.std.proofs.Common.{inl, inr, sym, ◌∙◌, arith, length-take, length-drop, ext_get_or, get_or-take, get_or-drop}
-use Rattle.std.proofs.Math.Path.{ap}
+use Rattle.std.specs.Prelude.{ℕ, ◌+◌, ◌%◌, ◌^◌, ◌≤◌, ◌<◌, List, ◌≡◌, refl, length, get_or, take, drop}
+use Rattle.std.proofs.Common.{inl, inr, sym, ◌∙◌, arith, length-take, length-drop, ext_get_or, get_or-take, get_or-drop, ap}
 use Rattle.facts.specs.Fact.{Holds}
 use Rattle.words.specs.Le.{le, Bytes}
 use Rattle.words.specs.LeLaws.{le_cong}

@@ -17,7 +17,8 @@ fn read_some(input: &mut impl Read, buffer: &mut [u8]) -> usize
     }
 }
 
-// Reads until the buffer is full, the input ends or a read fails, and returns how many bytes it put at the buffer's start.
+// Reads until the buffer is full, the input ends or a read fails, and returns how many bytes it put at the buffer's start. `cases` has one that
+// hands a failure on: one function for both would ask for a closure and be no plainer.
 fn read_full(input: &mut impl Read, buffer: &mut [u8]) -> usize
     ensures { result ≤ length buffer.new }
 {

@@ -51,7 +51,7 @@ pub fn setting(image: &[u8], offset: u64, size: u64) -> &[u8]
     in_region(&image[c..end], offset as usize, size as usize)
 }
 
-// The number that goes with it: 0, the image's refusal, or 17.
+// The number that goes with it: 0, the image's refusal, or 17. A number, since NumberOf promises just that and C is handed it.
 pub fn setting_number(image: &[u8], offset: u64, size: u64) -> u32
     ensures { NumberOf image.now offset size result }
 {

@@ -1,12 +1,12 @@
 -- Laws of what a sheet sets at an offset.
 -- Assumes nothing.
-use Rattle.std.specs.Prelude.{ℕ, zero, suc, ◌+◌, ◌-◌, ◌*◌, ◌^◌, ◌≤◌, ◌<◌, Bool, true, false, cond, List, ◌≡◌, refl, get_or}
-use Rattle.std.proofs.Common.{sym, ap, ◌∙◌, arith}
+use Rattle.std.specs.Prelude.{ℕ, zero, suc, ◌+◌, ◌-◌, ◌*◌, ◌≤◌, ◌<◌, List, ◌≡◌, refl, get_or}
+use Rattle.std.proofs.Common.{sym, ◌∙◌, arith}
 use Rattle.std.proofs.Math.Decide.{dec_lt}
-use Rattle.facts.specs.Fact.{test, Holds}
+use Rattle.facts.specs.Fact.{Holds}
 use Rattle.facts.specs.FactLaws.{passes, fails}
 use Rattle.facts.specs.RulesLaws.{by_test}
-use Rattle.words.specs.Le.{le, Bytes}
+use Rattle.words.specs.Le.{Bytes}
 use Rattle.words.specs.LeLaws.{le_lt}
 use Rattle.sheet.specs.Sheet.{count, offset, size, position, body_at, bodies_fit}
 use Rattle.sheet.specs.SheetLaws.{ascending}

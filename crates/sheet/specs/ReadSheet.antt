@@ -3,7 +3,6 @@
 use Rattle.std.specs.Prelude.{ℕ, List, ◌≡◌}
 use Rattle.std.proofs.Common.{sym, ◌∙◌}
 use Rattle.facts.specs.Rules.{answer, rule, run}
-use Rattle.answers.specs.declared.Identity.{Identity}
 use Rattle.sheet.specs.declared.SheetReading.{SheetReading}
 use Rattle.sheet.specs.Sheet.{sheet_identity, count, sheet_fits}
 

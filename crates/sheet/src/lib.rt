@@ -1,12 +1,13 @@
 // Document 01, "The release sheet".
 #![tactic(auto)]
 
-ghost use Rattle.std.specs.Prelude.{◌≡◌, ◌+◌, ◌-◌, ◌*◌, ◌≤◌, ◌<◌, length};
+ghost use Rattle.std.specs.Prelude.{◌≡◌, ◌+◌, ◌-◌, ◌*◌, ◌≤◌, ◌<◌, length, MatchOption};
 ghost use Rattle.facts.specs.Fact.{Holds, Tells, every};
 ghost use Rattle.sheet.specs.Sheet.{sheet_identity, count, offset, size, position, entry_at, follows, contents_fit, bodies_fit, sheet_fits, same_identity, in_field, field_fits};
 ghost use Rattle.sheet.specs.ReadSheet.{ReadsSheet};
 
 use answers::Identity;
+use std::marker::Model;
 
 // An entry of a sheet.
 #[derive(Clone, Copy)]
@@ -74,15 +75,13 @@ fn bodies_fit(sheet: &[u8]) -> bool
     let m = words::le16(sheet, 12);
     let mut body = 16 + 8 * m;
     let mut last = 0;
-    let mut i = 0;
-    while i < m {
+    for i in 0..m {
         let w = entry_at(sheet, i);
         if !entry_fits(w, body, last) {
             return false;
         }
         body += w.size;
         last = w.offset + w.size;
-        i += 1;
     }
     if body != sheet.len() {
         return false;
@@ -103,42 +102,6 @@ pub fn sheet_fits(sheet: &[u8]) -> bool
     true
 }
 
-// The identity that the sheet names.
-pub fn identity_of(sheet: &[u8]) -> Identity
-    requires { 16 ≤ length sheet.now }
-    ensures { result ≡ sheet_identity sheet.now }
-{
-    Identity {
-        image: words::le64(sheet, 0) as u64,
-        revision: words::le32(sheet, 8) as u32,
-        extended: words::le16(sheet, 14) as u32,
-    }
-}
-
-// Rule 16: the one place where identities are compared.
-fn same_identity(a: Identity, b: Identity) -> bool
-    ensures { Tells result (same_identity a b) }
-{
-    if a.image != b.image {
-        return false;
-    }
-    if a.revision != b.revision {
-        return false;
-    }
-    if a.extended != b.extended {
-        return false;
-    }
-    true
-}
-
-// Rule 16, for an image of this identity.
-pub fn names(sheet: &[u8], identity: Identity) -> bool
-    requires { Holds (sheet_fits sheet.now) }
-    ensures { Tells result (same_identity (sheet_identity sheet.now) identity) }
-{
-    same_identity(identity_of(sheet), identity)
-}
-
 // Rule 17 for one entry.
 fn field_fits(w: Entry, z: usize) -> bool
     requires { (w.offset < 4294967296) × (w.size < 65536) }
@@ -153,23 +116,109 @@ fn field_fits(w: Entry, z: usize) -> bool
     true
 }
 
-// Rule 17.
-pub fn fields_fit(sheet: &[u8], z: usize) -> bool
-    requires { Holds (sheet_fits sheet.now) }
-    ensures { Tells result (every (count sheet.now) (field_fits sheet.now z)) }
+// The identity that a sheet names.
+pub fn identity_of(sheet: &[u8]) -> Identity
+    requires { 16 ≤ length sheet.now }
+    ensures { result ≡ sheet_identity sheet.now }
 {
-    let m = words::le16(sheet, 12);
-    let mut i = 0;
-    while i < m {
-        if !field_fits(entry_at(sheet, i), z) {
-            return false;
-        }
-        i += 1;
+    Identity {
+        image: words::le64(sheet, 0) as u64,
+        revision: words::le32(sheet, 8) as u32,
+        extended: words::le16(sheet, 14) as u32,
     }
-    true
 }
 
-// A sheet read by itself: number 0, its entries and the identity that it names; or 15 and zeros.
+// Bytes that pass rule 15; contracts see a sheet as its bytes.
+#[derive(Drop)]
+pub struct Sheet<'a> {
+    bytes: &'a [u8],
+}
+
+impl<'a> Model for Sheet<'a> {
+    ghost use Rattle.std.specs.Prelude.{List, ℕ};
+    ghost use Rattle.facts.specs.Fact.{Holds};
+    ghost use Rattle.sheet.specs.Sheet.{sheet_fits};
+
+    ghost Value = { List ℕ };
+
+    ghost view = { λ s. s.bytes.now };
+
+    ghost invariant = { λ s. Holds (sheet_fits s.bytes.now) };
+}
+
+impl<'a> Sheet<'a> {
+    // The bytes as a sheet, if they are one: rule 15.
+    pub fn of(bytes: &'a [u8]) -> Option<Sheet<'a>>
+        ensures { MatchOption result (Holds (sheet_fits bytes.now) → ⊥) (λ s. (s ≡ bytes.now) × Holds (sheet_fits bytes.now)) }
+    {
+        if !sheet_fits(bytes) {
+            return None;
+        }
+        Some(Sheet { bytes })
+    }
+
+    // The same of bytes that are known to be one.
+    pub fn known(bytes: &'a [u8]) -> Sheet<'a>
+        requires { Holds (sheet_fits bytes.now) }
+        ensures { result ≡ bytes.now }
+    {
+        Sheet { bytes }
+    }
+
+    // The bytes themselves.
+    pub fn bytes(&self) -> &[u8]
+        ensures { result.now ≡ self.now }
+    {
+        self.bytes
+    }
+
+    // How many entries there are. That the bytes pass rule 15 is what callers learn of a sheet here.
+    pub fn count(&self) -> usize
+        ensures value { (result ≡ count self.now) × (result ≤ 256) }
+        ensures fits { Holds (sheet_fits self.now) }
+    {
+        words::le16(self.bytes, 12)
+    }
+
+    // Entry i, whose body lies in the sheet.
+    pub fn entry(&self, i: usize) -> Entry
+        requires { i < count self.now }
+        ensures value { result ≡ entry_at self.now i }
+        ensures offset_bound { (result.offset < 4294967296) × (result.size < 65536) }
+        ensures body { result.position + result.size ≤ length self.now }
+    {
+        entry_at(self.bytes, i)
+    }
+
+    // The identity that the sheet names.
+    pub fn identity(&self) -> Identity
+        ensures { result ≡ sheet_identity self.now }
+    {
+        identity_of(self.bytes)
+    }
+
+    // Rule 16, for an image of this identity: the one place where identities are compared.
+    pub fn names(&self, identity: Identity) -> bool
+        ensures { Tells result (same_identity (sheet_identity self.now) identity) }
+    {
+        self.identity() == identity
+    }
+
+    // Rule 17.
+    pub fn fields_fit(&self, z: usize) -> bool
+        ensures { Tells result (every (count self.now) (field_fits self.now z)) }
+    {
+        for i in 0..self.count() {
+            if !field_fits(self.entry(i), z) {
+                return false;
+            }
+        }
+        true
+    }
+}
+
+// A sheet read by itself: number 0, its entries and the identity that it names; or 15 and zeros. No Result: `pajurenda_sheet` writes each
+// field, and `ReadsSheet` says what they are.
 #[derive(Clone, Copy)]
 pub struct SheetReading {
     pub number: u32,
@@ -181,8 +230,8 @@ pub struct SheetReading {
 pub fn read_sheet(sheet: &[u8]) -> SheetReading
     ensures { ReadsSheet sheet.now result }
 {
-    if !sheet_fits(sheet) {
-        return SheetReading {
+    match Sheet::of(sheet) {
+        None => SheetReading {
             number: 15,
             count: 0,
             identity: Identity {
@@ -190,11 +239,11 @@ pub fn read_sheet(sheet: &[u8]) -> SheetReading
                 revision: 0,
                 extended: 0,
             },
-        };
-    }
-    SheetReading {
-        number: 0,
-        count: words::le16(sheet, 12),
-        identity: identity_of(sheet),
+        },
+        Some(read) => SheetReading {
+            number: 0,
+            count: read.count(),
+            identity: read.identity(),
+        },
     }
 }

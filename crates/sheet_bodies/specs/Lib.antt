@@ -1,4 +1,5 @@
 pub mod Set
 pub mod SetLaws
 pub mod PartLaws
+pub mod CopyLaws
 pub mod Small

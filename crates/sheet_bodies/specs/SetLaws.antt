@@ -1,25 +1,23 @@
 -- What setting the bytes of a sheet does, byte by byte.
 -- Assumes nothing.
-use Rattle.std.specs.Prelude.{◌≡◌, refl, List, ◌++◌, ◌⊎◌, ℕ, zero, suc, ◌+◌, ◌-◌, ◌*◌, ◌≤◌, ◌<◌, min, length, get_or, take, drop, set}
-use Rattle.std.proofs.Common.{sym, ap, ◌∙◌, length-set, length-append, length-take, length-drop, get_or-set_same, get_or-set_other, get_or-append-add, length-take-le}
+use Rattle.std.specs.Prelude.{◌≡◌, refl, List, ◌⊎◌, ℕ, zero, suc, ◌+◌, ◌-◌, ◌≤◌, ◌<◌, length, get_or, take, drop}
+use Rattle.std.proofs.Common.{◌∙◌, length-set, length-drop, get_or-set_same, get_or-set_other, length-take-le}
 use Rattle.std.proofs.Math.Logic.{inl, inr}
 use native.Mathlib.Omega.{arith}
 use Rattle.std.proofs.Math.Decide.{dec_lt}
-use Rattle.std.proofs.Math.ListN.{get_or-append}
 use Rattle.std.proofs.Math.Seq.{get_or-take, get_or-drop}
 use Rattle.facts.specs.Fact.{Holds}
-use Rattle.words.specs.Le.{le, Bytes}
 use Rattle.answers.specs.declared.Reading.{Reading}
 use Rattle.reading_rules.specs.Guarantee.{Guaranteed}
 use Rattle.reading_rules.specs.Settings.{settings_at, settings_size, OutsideSettings}
-use Rattle.moves.specs.Moves.{Words, Beside}
+use Rattle.moves.specs.Moves.{Beside}
 use Rattle.moves.specs.MovesLaws.{find}
 use Rattle.sheet_bodies.specs.PartLaws.{length_joined, joined_low, joined_mid, joined_high}
 use Rattle.sheet.specs.Sheet.{Sound, count, offset, size, body_at, field_fits}
 use Rattle.sheet.specs.SheetLaws.{bodies_within, ascending}
 use Rattle.sheet.specs.ByteAt.{covers, byte_at, laid}
 use Rattle.sheet.specs.ByteAtLaws.{byte_one, byte_none}
-use Rattle.sheet_bodies.specs.Set.{fields_of, joined, copied, written, set_by}
+use Rattle.sheet_bodies.specs.Set.{fields_of, copied, written, set_by}
 
 -- ---- a copy
 

@@ -23,7 +23,7 @@ pub fn call(station: &mut Station, call: u64, notification: u64) -> u32
 pub fn reset(station: &mut Station)
     ensures { Resets station.new }
 {
-    station.state = station_order::AT_RESET;
+    station.state = station_order::State::AtReset as u32;
 }
 
 // A record made of a state, lent to one call: for a caller that keeps the state as a number.

@@ -1,7 +1,8 @@
 -- Request #108: a state that doesn't fit 32 bits is judged as any number that is no state of ours.
 -- Assumes nothing.
-use Rattle.std.specs.Prelude.{ℕ, ◌<◌, List, ◌≡◌}
-use Rattle.std.proofs.Common.{sym, ap, ◌∙◌, arith}
+use Rattle.std.specs.Prelude.{ℕ, ◌<◌, List, ◌≡◌, Result}
+use Rattle.std.specs.Result.{OkIff, result_unwrap_or}
+use Rattle.std.proofs.Common.{Ok, Err, sym, ap, ◌∙◌, arith}
 use Rattle.std.proofs.Math.Decide.{dec_lt}
 use Rattle.facts.specs.Fact.{◌≤?◌}
 use Rattle.facts.specs.FactLaws.{passes, fails}
@@ -13,11 +14,16 @@ use Rattle.station_order.specs.Order.{ordered}
 use Rattle.station_order.specs.OrderLaws.{other_number, other_refused}
 use Rattle.station_bytes.specs.Stored.{stationed, station_bytes, state_of}
 
-pub fits_itself : (w : ℕ) → w < 4294967296 → state_of w ≡ w
+fits_itself : (w : ℕ) → w < 4294967296 → state_of w ≡ w
 fits_itself w h = rw (passes (w ≤? 4294967295) (omega arith))
 
-pub is_other : (w : ℕ) → 4294967295 < w → state_of w ≡ 4294967295
+is_other : (w : ℕ) → 4294967295 < w → state_of w ≡ 4294967295
 is_other w h = rw (fails (w ≤? 4294967295) (λ l. omega arith))
+
+-- from the conversion and the number for where there is none
+pub converted : {E : Type 0} (w : ℕ) (r : Result ℕ E) → OkIff r (w < 4294967296) w → result_unwrap_or r 4294967295 ≡ state_of w
+converted w (Ok v) (h, e) = e ∙ sym (fits_itself w h)
+converted w (Err k) h = sym (is_other w (omega (arith, h)))
 
 module _ (w call n : ℕ) where
   -- the number is that of the state itself

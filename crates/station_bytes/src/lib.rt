@@ -10,10 +10,7 @@ ghost use Rattle.station_bytes.specs.Stored.{state_of, stationed, station_bytes}
 fn state_of(w: usize) -> u32
     ensures { result ≡ state_of w }
 {
-    if 4294967295 < w {
-        return 4294967295;
-    }
-    w as u32
+    u32::try_from(w).unwrap_or(u32::MAX)
 }
 
 // One call.

@@ -10,55 +10,29 @@ use station::Station;
 pub fn notify(station: &mut Station, notification: u64) -> u32
     ensures { Calls notify_phase notification station.old result station.new }
 {
-    let r = station_order::step(station.state, station_order::NOTIFY_PHASE, notification);
-    station.state = r.state;
-    r.number
+    station::call(station, station_order::NOTIFY_PHASE, notification)
 }
 
 pub fn temp_ram_init(station: &mut Station) -> u32
     ensures { Calls temp_ram_init none station.old result station.new }
 {
-    let r = station_order::step(
-        station.state,
-        station_order::TEMP_RAM_INIT,
-        station_order::NONE,
-    );
-    station.state = r.state;
-    r.number
+    station::call(station, station_order::TEMP_RAM_INIT, station_order::NONE)
 }
 
 pub fn memory_init(station: &mut Station) -> u32
     ensures { Calls memory_init none station.old result station.new }
 {
-    let r = station_order::step(
-        station.state,
-        station_order::MEMORY_INIT,
-        station_order::NONE,
-    );
-    station.state = r.state;
-    r.number
+    station::call(station, station_order::MEMORY_INIT, station_order::NONE)
 }
 
 pub fn temp_ram_exit(station: &mut Station) -> u32
     ensures { Calls temp_ram_exit none station.old result station.new }
 {
-    let r = station_order::step(
-        station.state,
-        station_order::TEMP_RAM_EXIT,
-        station_order::NONE,
-    );
-    station.state = r.state;
-    r.number
+    station::call(station, station_order::TEMP_RAM_EXIT, station_order::NONE)
 }
 
 pub fn silicon_init(station: &mut Station) -> u32
     ensures { Calls silicon_init none station.old result station.new }
 {
-    let r = station_order::step(
-        station.state,
-        station_order::SILICON_INIT,
-        station_order::NONE,
-    );
-    station.state = r.state;
-    r.number
+    station::call(station, station_order::SILICON_INIT, station_order::NONE)
 }

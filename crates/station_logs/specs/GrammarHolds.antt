@@ -1,9 +1,7 @@
 -- The grammar takes exactly the sequences without a refusal.
 -- Assumes nothing.
-use Rattle.std.specs.Prelude.{ℕ, ◌⊎◌, ◌≡◌, refl}
-use mathlib.Core.List.{List, [], ◌∷◌}
-use Rattle.std.proofs.Common.{inl, inr, arith}
-use Rattle.std.proofs.Math.Path.{ap}
+use Rattle.std.specs.Prelude.{ℕ, ◌⊎◌, ◌≡◌, refl, List, [], ◌∷◌}
+use Rattle.std.proofs.Common.{inl, inr, arith, ap}
 use Rattle.facts.specs.Fact.{test}
 use Rattle.station_order.specs.declared.Answer.{Answer}
 use Rattle.station_order.specs.Order.{temp_ram_init, memory_init, temp_ram_exit, silicon_init}

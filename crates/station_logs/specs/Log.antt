@@ -1,7 +1,7 @@
 -- Request #108: a boot log, its answers and the state after it.
 -- Assumes nothing.
-use Rattle.std.specs.Prelude.{ℕ, ◌≡◌}
-use mathlib.Core.List.{List, [], ◌∷◌, foldl}
+use Rattle.std.specs.Prelude.{ℕ, ◌≡◌, List, [], ◌∷◌}
+use mathlib.Core.List.{foldl}
 use Rattle.station_order.specs.declared.Answer.{Answer}
 use Rattle.station_order.specs.Order.{at_reset, noted, ordered}
 use Rattle.station.specs.declared.Station.{Station}

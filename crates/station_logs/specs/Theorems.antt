@@ -1,9 +1,8 @@
 -- Request #108's claims of a whole boot log.
 -- Assumes nothing.
-use Rattle.std.specs.Prelude.{ℕ, ◌+◌, ◌≤◌, ◌<◌, cond, ◌≡◌}
-use mathlib.Core.List.{List, [], ◌∷◌, ◌++◌, map, foldl-append}
-use Rattle.std.proofs.Math.Path.{refl}
-use native.Mathlib.Omega.{arith}
+use Rattle.std.specs.Prelude.{ℕ, ◌+◌, ◌≤◌, ◌<◌, cond, ◌≡◌, List, [], ◌∷◌, ◌++◌, map, refl}
+use Rattle.std.proofs.Common.{arith}
+use mathlib.Core.List.{foldl-append}
 use Rattle.facts.specs.Fact.{◌≤?◌, ◌≡?◌, ◌and◌, test, Holds}
 use Rattle.station_order.specs.declared.Answer.{Answer}
 use Rattle.station_order.specs.Order.{notify_phase, at_reset, notifiedF0, table, noted, of_call, some, refusal}

@@ -5,29 +5,11 @@ use Rattle.std.proofs.Math.Bool.{true, false, cond}
 use mathlib.Core.List.{List, [], ◌∷◌}
 use Rattle.std.proofs.Math.Path.{refl}
 use Rattle.std.proofs.Common.{sym, ◌∙◌, arith}
-use Rattle.facts.specs.Fact.{Fact, ◌≤?◌, ◌≡?◌, Holds, Tells, test}
-use Rattle.facts.specs.FactLaws.{is_test, holds, fails, fails_not}
+use Rattle.facts.specs.Fact.{Fact, ◌≤?◌, ◌≡?◌, Holds, test}
+use Rattle.facts.specs.FactLaws.{holds, fails, fails_not}
 use Rattle.facts.specs.RulesLaws.{and_left, and_right, by_cond, by_test}
 use Rattle.station_order.specs.declared.Answer.{Answer}
 use Rattle.station_order.specs.Order.{Row, table, noted, of_call, in_state, some, refusal, accepted, by_rows, ordered}
-
--- what a caller learns inside `if check(..) { .. }`, and past it
-module _ {b : Bool} {p : Fact} (t : Tells b p) where
-  pub so : b ≡ true → Holds p
-  so e = holds p (sym (is_test t) ∙ e)
-
-  pub not_so : b ≡ false → Holds p → ⊥
-  not_so e = fails_not p (sym (is_test t) ∙ e)
-
--- a row that is of this state and call, and one that isn't
-module _ (state call m : ℕ) (r : Row) (rows : List Row) {b : Bool} (t : Tells b (in_state state call m r)) where
-  pub row_here : b ≡ true → by_rows state call m (r ∷ rows) ≡ accepted r.next
-  unfolding by_rows
-  row_here e = rw (sym (is_test t) ∙ e)
-
-  pub row_past : b ≡ false → by_rows state call m (r ∷ rows) ≡ by_rows state call m rows
-  unfolding by_rows
-  row_past e = rw (sym (is_test t) ∙ e)
 
 pub no_row : (state call m : ℕ) → by_rows state call m [] ≡ refusal state 40
 unfolding by_rows
@@ -113,7 +95,7 @@ module _ (state : ℕ) (other : 8 ≤ state) (call n : ℕ) where
       let low = holds (r.state + 1 ≤? 8) (and_left (test (r.state + 1 ≤? 8)) _ e) in
       rw (fails (in_state state call m r) (λ h. omega arith)) (past_rows m rows (and_right (test (r.state + 1 ≤? 8)) _ e))
 
-  none_here : (m : ℕ) → by_rows state call m table ≡ refusal state 40
+  pub none_here : (m : ℕ) → by_rows state call m table ≡ refusal state 40
   unfolding test
   none_here m = past_rows m table refl
 

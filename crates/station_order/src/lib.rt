@@ -1,11 +1,11 @@
 // Request #108: one step of the call order, by value: from a state and a call with its notification to the answer and the next state.
 #![tactic(auto)]
 
-ghost use Rattle.std.specs.Prelude.{◌≡◌, drop};
-ghost use Rattle.facts.specs.Fact.{Tells, ◌≡?◌, ◌and◌};
-ghost use Rattle.station_order.specs.Order.{table, noted, of_call, some, refusal, accepted, by_rows, Orders};
+ghost use Rattle.std.specs.Prelude.{◌≡◌, ◌≤◌, MatchOption};
+ghost use Rattle.station_order.specs.Order.{refusal, Orders};
+ghost use Rattle.station_order.specs.Forms.{state_number, next_of, Named};
 
-// The calls, by number.
+// The calls, by the numbers that C passes.
 pub const TEMP_RAM_INIT: u64 = 1;
 
 pub const MEMORY_INIT: u64 = 2;
@@ -16,27 +16,78 @@ pub const SILICON_INIT: u64 = 4;
 
 pub const NOTIFY_PHASE: u64 = 5;
 
-// The states.
-pub const AT_RESET: u32 = 0;
-
-const WITH_TEMP_RAM: u32 = 1;
-
-const TO_EXIT: u32 = 2;
-
-const WITH_MEMORY: u32 = 3;
-
-const WITH_SILICON: u32 = 4;
-
-const NOTIFIED_20: u32 = 5;
-
-const NOTIFIED_40: u32 = 6;
-
-const NOTIFIED_F0: u32 = 7;
-
 // The notification of a call that has none.
 pub const NONE: u64 = 0;
 
-// The number, 0 where the call is in order, and the state afterwards.
+// A call that the table has, NotifyPhase with its notification.
+#[derive(Clone, Copy)]
+enum Call {
+    TempRamInit,
+    MemoryInit,
+    TempRamExit,
+    SiliconInit,
+    Notify20,
+    Notify40,
+    NotifyF0,
+}
+
+impl Call {
+    // The call of these numbers, if the table has it: a notification counts with NotifyPhase alone.
+    #[tactic(auto, unfolding(crate::specs::Order::noted))]
+    fn of_numbers(call: u64, notification: u64) -> Option<Call>
+        ensures { Named call notification result }
+    {
+        match (call, notification) {
+            (TEMP_RAM_INIT, _) => Some(Call::TempRamInit),
+            (MEMORY_INIT, _) => Some(Call::MemoryInit),
+            (TEMP_RAM_EXIT, _) => Some(Call::TempRamExit),
+            (SILICON_INIT, _) => Some(Call::SiliconInit),
+            (NOTIFY_PHASE, 0x20) => Some(Call::Notify20),
+            (NOTIFY_PHASE, 0x40) => Some(Call::Notify40),
+            (NOTIFY_PHASE, 0xF0) => Some(Call::NotifyF0),
+            _ => None,
+        }
+    }
+}
+
+// The states, by the numbers that C keeps.
+#[derive(Clone, Copy)]
+pub enum State {
+    AtReset = 0,
+    WithTempRam = 1,
+    ToExit = 2,
+    WithMemory = 3,
+    WithSilicon = 4,
+    Notified20 = 5,
+    Notified40 = 6,
+    NotifiedF0 = 7,
+}
+
+impl State {
+    fn of_number(number: u32) -> Option<State>
+        ensures { MatchOption result (8 ≤ number) (λ s. number ≡ state_number s) }
+    {
+        match number {
+            0 => Some(State::AtReset),
+            1 => Some(State::WithTempRam),
+            2 => Some(State::ToExit),
+            3 => Some(State::WithMemory),
+            4 => Some(State::WithSilicon),
+            5 => Some(State::Notified20),
+            6 => Some(State::Notified40),
+            7 => Some(State::NotifiedF0),
+            _ => None,
+        }
+    }
+
+    fn number(self) -> u32
+        ensures { result ≡ state_number self }
+    {
+        self as u32
+    }
+}
+
+// The number, 0 where the call is in order, and the state afterwards: numbers, as C writes them.
 #[derive(Clone, Copy)]
 pub struct Answer {
     pub number: u32,
@@ -49,127 +100,38 @@ fn refused(state: u32, number: u32) -> Answer
     Answer { number, state }
 }
 
-fn accept(next: u32) -> Answer
-    ensures { result ≡ accepted next }
+// The table: in this state this call leads to that state.
+fn next(state: State, call: Call) -> Option<State>
+    ensures { result ≡ next_of state call }
 {
-    Answer {
-        number: 0,
-        state: next,
+    match (state, call) {
+        (State::AtReset, Call::TempRamInit) => Some(State::WithTempRam),
+        (State::AtReset, Call::MemoryInit) => Some(State::WithMemory),
+        (State::WithTempRam, Call::MemoryInit) => Some(State::ToExit),
+        (State::ToExit, Call::TempRamExit) => Some(State::WithMemory),
+        (State::WithMemory, Call::SiliconInit) => Some(State::WithSilicon),
+        (State::WithSilicon, Call::Notify20) => Some(State::Notified20),
+        (State::Notified20, Call::Notify40) => Some(State::Notified40),
+        (State::Notified40, Call::NotifyF0) => Some(State::NotifiedF0),
+        _ => None,
     }
-}
-
-// The notification that counts.
-fn heard(call: u64, notification: u64) -> u64
-    ensures { result ≡ noted call notification }
-{
-    if call != NOTIFY_PHASE {
-        return NONE;
-    }
-    notification
-}
-
-// Whether the call is `of` with the notification `with`.
-fn is_call(call: u64, n: u64, of: u64, with: u64) -> bool
-    ensures { Tells result (call ≡? of and n ≡? with) }
-{
-    if call != of {
-        return false;
-    }
-    if n != with {
-        return false;
-    }
-    true
-}
-
-// 41: whether some row has the call.
-fn named(call: u64, n: u64) -> bool
-    ensures { Tells result (some (of_call call n) table) }
-{
-    if is_call(call, n, TEMP_RAM_INIT, NONE) {
-        return true;
-    }
-    if is_call(call, n, MEMORY_INIT, NONE) {
-        return true;
-    }
-    if is_call(call, n, TEMP_RAM_EXIT, NONE) {
-        return true;
-    }
-    if is_call(call, n, SILICON_INIT, NONE) {
-        return true;
-    }
-    if is_call(call, n, NOTIFY_PHASE, 0x20) {
-        return true;
-    }
-    if is_call(call, n, NOTIFY_PHASE, 0x40) {
-        return true;
-    }
-    if is_call(call, n, NOTIFY_PHASE, 0xF0) {
-        return true;
-    }
-    false
-}
-
-// Whether a row is of this state and call.
-fn is_row(state: u32, call: u64, n: u64, from: u32, of: u64, with: u64) -> bool
-    ensures { Tells result (state ≡? from and (call ≡? of and n ≡? with)) }
-{
-    if state != from {
-        return false;
-    }
-    if call != of {
-        return false;
-    }
-    if n != with {
-        return false;
-    }
-    true
-}
-
-// The rows from SiliconInit on, then 40.
-fn by_later_rows(state: u32, call: u64, n: u64) -> Answer
-    ensures { result ≡ by_rows state call n (drop 4 table) }
-{
-    if is_row(state, call, n, WITH_MEMORY, SILICON_INIT, NONE) {
-        return accept(WITH_SILICON);
-    }
-    if is_row(state, call, n, WITH_SILICON, NOTIFY_PHASE, 0x20) {
-        return accept(NOTIFIED_20);
-    }
-    if is_row(state, call, n, NOTIFIED_20, NOTIFY_PHASE, 0x40) {
-        return accept(NOTIFIED_40);
-    }
-    if is_row(state, call, n, NOTIFIED_40, NOTIFY_PHASE, 0xF0) {
-        return accept(NOTIFIED_F0);
-    }
-    refused(state, 40)
-}
-
-// The rows from the reset on.
-fn by_rows(state: u32, call: u64, n: u64) -> Answer
-    ensures { result ≡ by_rows state call n table }
-{
-    if is_row(state, call, n, AT_RESET, TEMP_RAM_INIT, NONE) {
-        return accept(WITH_TEMP_RAM);
-    }
-    if is_row(state, call, n, AT_RESET, MEMORY_INIT, NONE) {
-        return accept(WITH_MEMORY);
-    }
-    if is_row(state, call, n, WITH_TEMP_RAM, MEMORY_INIT, NONE) {
-        return accept(TO_EXIT);
-    }
-    if is_row(state, call, n, TO_EXIT, TEMP_RAM_EXIT, NONE) {
-        return accept(WITH_MEMORY);
-    }
-    by_later_rows(state, call, n)
 }
 
 // The step.
 pub fn step(state: u32, call: u64, notification: u64) -> Answer
     ensures { Orders state call notification result }
 {
-    let n = heard(call, notification);
-    if !named(call, n) {
+    let Some(named) = Call::of_numbers(call, notification) else {
         return refused(state, 41);
+    };
+    let Some(from) = State::of_number(state) else {
+        return refused(state, 40);
+    };
+    match next(from, named) {
+        Some(to) => Answer {
+            number: 0,
+            state: to.number(),
+        },
+        None => refused(state, 40),
     }
-    by_rows(state, call, n)
 }

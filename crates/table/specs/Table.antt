@@ -1,6 +1,6 @@
 -- Document 01, "Patch table": rule 9, in its letters: p and n. `end` is the position after the section, in which all of it lies.
 -- Assumes nothing.
-use Rattle.std.specs.Prelude.{ℕ, ◌+◌, ◌*◌, ◌/◌, List}
+use Rattle.std.specs.Prelude.{ℕ, ◌+◌, ◌*◌, List}
 use Rattle.facts.specs.Fact.{Fact, ◌≤?◌, ◌≡?◌, ◌and◌}
 use Rattle.words.specs.Le.{le}
 

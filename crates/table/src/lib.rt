@@ -2,7 +2,7 @@
 // `table_found` and `table_scans`.
 #![tactic(auto)]
 
-ghost use Rattle.std.specs.Prelude.{◌≡◌, ◌+◌, ◌*◌, ◌≤◌, length};
+ghost use Rattle.std.specs.Prelude.{◌⊎◌, ◌≡◌, ◌+◌, ◌-◌, ◌*◌, ◌/◌, ◌%◌, ◌^◌, ◌≤◌, ◌<◌, length, MatchOption};
 ghost use Rattle.words.specs.Round.{round4};
 ghost use Rattle.facts.specs.Fact.{Tells};
 ghost use Rattle.table.specs.Entry.{type_fits, reserved_fits, refused_place, fitted, place_of, Points};
@@ -16,7 +16,8 @@ pub fn round_4(n: usize) -> usize
     (n + 3) / 4 * 4
 }
 
-// Where an entry points: a place with number 0, or the number of its refusal with place 0.
+// Where an entry points: a place with number 0, or the number of its refusal with place 0. No Result: `place_of` and `place`, on which the
+// rules from 12 to 14 and the theorems above them stand, are of this record, and they speak of the place of an entry that is refused, too.
 #[derive(Clone, Copy)]
 pub struct Place {
     pub number: u32,
@@ -66,6 +67,20 @@ fn fit(at: usize, size: usize) -> Place
     Place { number: 0, at }
 }
 
+// Where an entry's low bits lead: up from the image's start, or back from its end where that isn't before the start.
+fn counted(entry: usize, size: usize) -> Option<usize>
+    ensures { MatchOption result
+        ((entry / 2 ^ 31 % 2 ≡ 0 → ⊥) × (size < 2 ^ 24 - entry % 2 ^ 24))
+        (λ at. ((entry / 2 ^ 31 % 2 ≡ 0) × (at ≡ entry % 2 ^ 24))
+        ⊎ ((entry / 2 ^ 31 % 2 ≡ 0 → ⊥) × (2 ^ 24 - entry % 2 ^ 24 ≤ size) × (at ≡ size - (2 ^ 24 - entry % 2 ^ 24)))) }
+{
+    let low = entry % 16777216;
+    if entry / 2147483648 % 2 == 0 {
+        return Some(low);
+    }
+    size.checked_sub(16777216 - low)
+}
+
 // Where an entry points in an image of `size` bytes; refusals 12, 22 and 13 are said here and nowhere else.
 pub fn point(entry: usize, size: usize) -> Place
     ensures { Points entry size result }
@@ -76,14 +91,10 @@ pub fn point(entry: usize, size: usize) -> Place
     if !reserved_fits(entry) {
         return refused_place(22);
     }
-    let low = entry % 16777216;
-    if entry / 2147483648 % 2 == 0 {
-        return fit(low, size);
-    }
-    if size < 16777216 - low {
+    let Some(at) = counted(entry, size) else {
         return refused_place(13);
-    }
-    fit(size - (16777216 - low), size)
+    };
+    fit(at, size)
 }
 
 // Where entry i of the table at t points.
@@ -99,12 +110,7 @@ fn spot(entry: usize, size: usize) -> usize
     requires { (place_of size entry).number ≡ 0 }
     ensures { result ≡ (place_of size entry).at }
 {
-    let low = entry % 16777216;
-    let back = entry / 2147483648 % 2;
-    if back == 0 {
-        return low;
-    }
-    size - (16777216 - low)
+    counted(entry, size).unwrap()
 }
 
 // Where entry i of the table at t points, if it isn't refused.

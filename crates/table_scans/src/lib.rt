@@ -3,24 +3,21 @@
 
 ghost use Rattle.std.specs.Prelude.{true, ◌⊎◌, ◌≡◌, ℕ, ◌+◌, ◌*◌, ◌≤◌, ◌<◌, length};
 ghost use Rattle.facts.specs.Fact.{Holds, Tells};
-ghost use Rattle.facts.specs.First.{first_fault};
 ghost use Rattle.table.specs.Passes.{place, unrefused, outside, apart, clear};
 ghost use Rattle.table_order.specs.Ranks.{all_apart};
+ghost use Rattle.table_scans.specs.FirstAt.{FirstAt};
 
-// The first of n entries that is refused with this number, or n.
-pub fn first_refused(image: &[u8], t: usize, n: usize, number: u32) -> usize
+// The first of n entries that is refused with this number.
+pub fn first_refused(image: &[u8], t: usize, n: usize, number: u32) -> Option<usize>
     requires { t + 4 * n ≤ length image.now }
-    ensures { result ≡ first_fault (unrefused number image.now t) n }
+    ensures { FirstAt (unrefused number image.now t) n result }
 {
-    let mut i = 0;
-    while i < n {
-        let w = table::point_at(image, t, i);
-        if w.number == number {
-            return i;
+    for i in 0..n {
+        if table::point_at(image, t, i).number == number {
+            return Some(i);
         }
-        i += 1;
     }
-    i
+    None
 }
 
 // Whether the word at `at` lies at or above E and outside the configuration region.
@@ -52,18 +49,6 @@ fn is_apart(a: usize, b: usize) -> bool
         return true;
     }
     false
-}
-
-// The highest end of the words passed, with that of the word at a among them.
-fn end_with(high: usize, a: usize) -> usize
-    requires { a < 9223372036854775808 }
-    ensures { (high ≤ result) × (a + 4 ≤ result) }
-{
-    let end = a + 4;
-    if high < end {
-        return end;
-    }
-    high
 }
 
 // How many of the i words before the word at a need no look: all, where it is sure that no two share a byte or none ends above `high`; else
@@ -102,34 +87,27 @@ fn surely_apart(image: &[u8], t: usize, n: usize) -> bool
     all_apart(image, t, n)
 }
 
-// Rule 14, where 12, 22 and 13 are passed: the first of n entries whose word isn't clear, or n. The nested scan answers for every table; a
-// word is held against each before it, but where all are known to lie apart or it starts at or above the highest end so far.
-pub fn first_overlap(image: &[u8], t: usize, n: usize, c: usize, z: usize) -> usize
+// Rule 14, where 12, 22 and 13 are passed: the first of n entries whose word isn't clear. The nested scan answers for every table; a word
+// is held against each before it, but where all are known to lie apart or it starts at or above the highest end so far.
+pub fn first_overlap(image: &[u8], t: usize, n: usize, c: usize, z: usize) -> Option<usize>
     requires { (t + 4 * n ≤ length image.now) × (c + z ≤ length image.now) × ((i : ℕ) → i < n → (place image.now t i).number ≡ 0)
         × (length image.now ≤ 16777216) × (n ≤ 1024) }
-    ensures { result ≡ first_fault (clear image.now t (t + 4 * n) c z) n }
+    ensures { FirstAt (clear image.now t (t + 4 * n) c z) n result }
 {
     let sure = surely_apart(image, t, n);
     let E = t + 4 * n;
-    let mut i = 0;
     let mut high = 0;
-    let r = 'entries: loop {
-        if i >= n {
-            break 'entries i;
-        }
-        let a = table::point_at(image, t, i).at;
+    for i in 0..n {
+        let a = table::spot_at(image, t, i);
         if !is_outside(a, E, c, z) {
-            break 'entries i;
+            return Some(i);
         }
-        let mut j = skipped(sure, a, high, i);
-        while j < i {
+        for j in skipped(sure, a, high, i)..i {
             if !is_apart(a, table::spot_at(image, t, j)) {
-                break 'entries i;
+                return Some(i);
             }
-            j += 1;
         }
-        high = end_with(high, a);
-        i += 1;
-    };
-    r
+        high = high.max(a + 4);
+    }
+    None
 }

@@ -1,7 +1,7 @@
 // The text of an audit's answer, into a lent buffer.
 #![tactic(auto)]
 
-ghost use Rattle.std.specs.Prelude.{◌+◌, ◌*◌, ◌≤◌, ◌<◌, length, take};
+ghost use Rattle.std.specs.Prelude.{◌+◌, ◌*◌, ◌≤◌, ◌<◌, length};
 ghost use Rattle.text_lines.specs.Lines.{Wrote};
 ghost use Rattle.text_answer.specs.Told.{heading, place_line, place_lines, refusal, told};
 ghost use Rattle.text_answer.specs.Told.{verdict};
@@ -32,17 +32,15 @@ fn put_place(out: &mut [u8], at: usize, v: u32) -> usize
     text_lines::put_short_line(out, at, b"X ", v - 16777216)
 }
 
-// The first `count` places.
-fn put_places(out: &mut [u8], at: usize, places: &[u32], count: usize) -> usize
-    requires { (count ≤ length places.now) × (at + 13 * count ≤ length out.old) }
-    ensures wrote { Wrote out.old out.new at (place_lines (take count places.now)) result }
-    ensures upper_bound { result ≤ at + 13 * count }
+// A line for each place.
+fn put_places(out: &mut [u8], at: usize, places: &[u32]) -> usize
+    requires { at + 13 * length places.now ≤ length out.old }
+    ensures wrote { Wrote out.old out.new at (place_lines places.now) result }
+    ensures upper_bound { result ≤ at + 13 * length places.now }
 {
     let mut p = at;
-    let mut i = 0;
-    while i < count {
-        p = put_place(out, p, places[i]);
-        i += 1;
+    for place in places {
+        p = put_place(out, p, *place);
     }
     p
 }
@@ -58,14 +56,14 @@ fn put_verdict(out: &mut [u8], at: usize, explained: bool) -> usize
     text_lines::put_text(out, at, b"verdict unexplained\n")
 }
 
-// An accepted audit with `count` places listed.
-pub fn put_told(out: &mut [u8], a: Audited, places: &[u32], count: usize) -> usize
-    requires { (count ≤ length places.now) × (118 + 13 * count ≤ length out.old) }
-    ensures wrote { Wrote out.old out.new 0 (told a (take count places.now)) result }
-    ensures upper_bound { result ≤ 118 + 13 * count }
+// An accepted audit with the places that it listed.
+pub fn put_told(out: &mut [u8], a: Audited, places: &[u32]) -> usize
+    requires { 118 + 13 * length places.now ≤ length out.old }
+    ensures wrote { Wrote out.old out.new 0 (told a places.now) result }
+    ensures upper_bound { result ≤ 118 + 13 * length places.now }
 {
     let p = put_heading(out, a.base, a.settings, a.strays, a.bits);
-    let q = put_places(out, p, places, count);
+    let q = put_places(out, p, places);
     put_verdict(out, q, a.explained)
 }
 

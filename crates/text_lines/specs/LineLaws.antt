@@ -1,7 +1,7 @@
 -- Writing one text after the other.
 -- Assumes nothing.
-use Rattle.std.specs.Prelude.{ℕ, suc, ◌+◌, ◌<◌, List, [], ◌∷◌, ◌++◌, ◌≡◌, refl, length, get_or, set, take}
-use Rattle.std.proofs.Common.{sym, ap, ◌∙◌, arith, add-one, add-zero, length-append, take-suc}
+use Rattle.std.specs.Prelude.{ℕ, suc, ◌+◌, List, [], ◌∷◌, ◌++◌, ◌≡◌, refl, length, set}
+use Rattle.std.proofs.Common.{sym, ap, ◌∙◌, arith, add-zero, length-append}
 use Rattle.std.proofs.lemmas.List.Edits.{sets}
 use Rattle.std.proofs.Math.Seq.{length-sets}
 use Rattle.text_lines.specs.Lines.{Wrote}
@@ -30,10 +30,3 @@ wrote_byte l at v = record { bytes = refl; after = refl }
 -- the buffer keeps its length
 pub wrote_length : {l m : List ℕ} {at r : ℕ} {text : List ℕ} → Wrote l m at text r → length m ≡ length l
 wrote_length {l = l} {at = at} {text = text} w = ap length w.bytes ∙ length-sets l at text
-
--- a text that is copied byte by byte
-pub wrote_more : {l m : List ℕ} {at i : ℕ} (text : List ℕ) → i < length text → Wrote l m at (take i text) (at + i)
-    → Wrote l (set m (at + i) (get_or text i 0)) at (take (i + 1) text) (at + (i + 1))
-wrote_more {l = l} {m = m} {at = at} {i = i} text h w =
-    let e : at + i + 1 ≡ at + suc i = omega arith in
-    rw (add-one, take-suc text i 0) (rw e at (wrote_then (take i text) (get_or text i 0 ∷ []) w (wrote_byte m (at + i) (get_or text i 0))))

@@ -10,12 +10,9 @@ pub fn put_text(out: &mut [u8], at: usize, text: &[u8]) -> usize
     requires { at + length text.now ≤ length out.old }
     ensures { Wrote out.old out.new at text.now result }
 {
-    let mut i = 0;
-    while i < text.len() {
-        out[at + i] = text[i];
-        i += 1;
-    }
-    at + i
+    let end = at + text.len();
+    out[at..end].copy_from_slice(text);
+    end
 }
 
 fn put_byte(out: &mut [u8], at: usize, v: u8) -> usize
@@ -38,6 +35,7 @@ fn put_decimal(out: &mut [u8], at: usize, n: u64) -> usize
     put_byte(out, p, 48 + (n % 10) as u8)
 }
 
+// A capital letter above 9, which `char::from_digit` would give as a small one and as an Option of a char.
 fn hex_digit(d: u64) -> u8
     requires { d < 16 }
     ensures { result ≡ hex_digit d }

@@ -1,6 +1,6 @@
 -- Document 01, "The audit": what the program prints of two files.
 -- Assumes nothing.
-use Rattle.std.specs.Prelude.{ℕ, ◌≤◌, cond, List, [], ◌≡◌, length, take}
+use Rattle.std.specs.Prelude.{ℕ, ◌≤◌, cond, List, [], ◌≡◌, length}
 use Rattle.std.proofs.lemmas.List.Edits.{sets}
 use Rattle.facts.specs.Fact.{◌≤?◌, test}
 use Rattle.audit_count.specs.Differences.{entries}
@@ -14,11 +14,6 @@ audit_text xs ys = report_text (auditing xs ys 256) (entries (told_by xs) (diffe
 -- "28,672 bytes each at most": a longer file counts as empty, which gives 1 for the first and 19 for the second
 unfoldable pub taken : List ℕ → List ℕ
 taken xs = cond (test (length xs ≤? 28672)) xs []
-
--- n bytes of a file are what is taken of it
-pub record Takes (xs : List ℕ) (n : ℕ) : Type 0 where
-  pub within : n ≤ length xs
-  pub part : take n xs ≡ taken xs
 
 -- the whole output for the two files
 unfoldable pub output : List ℕ → List ℕ → List ℕ

@@ -5,7 +5,6 @@ use Rattle.std.proofs.Math.Path.{sym}
 use Rattle.std.proofs.Common.{ap, ◌∙◌, arith, zero-add, take_at}
 use Rattle.std.proofs.Math.ListN.{length}
 use Rattle.std.proofs.lemmas.List.Edits.{sets, sets-eq}
-use Rattle.std.proofs.Math.Seq.{take-length}
 use Rattle.facts.specs.Fact.{◌≤?◌, ◌≡?◌}
 use Rattle.facts.specs.FactLaws.{passes, fails}
 use Rattle.answers.specs.AfterLaws.{changed_so}
@@ -16,7 +15,7 @@ use Rattle.audit.specs.AuditLaws.{audit_accepted, fits}
 use Rattle.text_lines.specs.Lines.{Wrote}
 use Rattle.text_lines.specs.LineLaws.{wrote_length}
 use Rattle.text_answer.specs.Told.{told, refusal, report_text}
-use Rattle.text_output.specs.Output.{audit_text, taken, output, Takes, Reported}
+use Rattle.text_output.specs.Output.{audit_text, taken, output, Reported}
 
 -- ---- the text of an audit
 
@@ -66,21 +65,13 @@ pub taken_none : (xs : List ℕ) → 28672 < length xs → taken xs ≡ []
 unfolding taken
 taken_none xs h = rw (fails (length xs ≤? 28672) (λ k. omega arith))
 
-pub takes_whole : (xs : List ℕ) → length xs ≤ 28672 → Takes xs (length xs)
-takes_whole xs h = record { within = omega arith; part = take-length xs ∙ sym (taken_whole xs h) }
-
-pub takes_none : (xs : List ℕ) → 28672 < length xs → Takes xs 0
-takes_none xs h = record { within = omega arith; part = sym (taken_none xs h) }
-
 -- what was written of the parts taken is the output
-pub reported : {vendor shipped l m : List ℕ} {n k r : ℕ} → Takes vendor n → Takes shipped k
-    → Wrote l m 0 (audit_text (take n vendor) (take k shipped)) r
+pub reported : {vendor shipped l m : List ℕ} {r : ℕ} → Wrote l m 0 (audit_text (taken vendor) (taken shipped)) r
     → r ≤ 3446 → 4096 ≤ length l → Reported vendor shipped l m r
 unfolding output
-reported {vendor = vendor} {shipped = shipped} v s w h long =
-    let u = rw (v.part, s.part) at w in
+reported {vendor = vendor} {shipped = shipped} w h long =
     record {
-      bytes = u.bytes;
-      count = u.after ∙ zero-add (length (output vendor shipped));
-      room = omega (arith, wrote_length u);
+      bytes = w.bytes;
+      count = w.after ∙ zero-add (length (output vendor shipped));
+      room = omega (arith, wrote_length w);
     }

@@ -1,7 +1,7 @@
 -- The header's words summed k a turn and the rest after, for any k; and how one number of 64 bits holds four of them.
 -- Assumes nothing.
 use Prim.Native.Nat.{ℕ, zero, suc, ◌+◌, ◌*◌, ◌/◌, ◌%◌, ◌≤◌, ◌<◌}
-use Rattle.std.specs.Prelude.{List, ◌≡◌, refl}
+use Rattle.std.specs.Prelude.{List, ◌≡◌}
 use Rattle.std.proofs.Common.{sym, ap, ◌∙◌, arith, add-zero, add-suc, mul-suc}
 use Rattle.std.proofs.Math.Nat.{mul-zero, div-add-mod, div-div-eq-div-mul}
 use Rattle.words.specs.Le.{le, Bytes}

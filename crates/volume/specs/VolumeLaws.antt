@@ -1,14 +1,14 @@
 -- Which bytes the rules 1 to 4 look at.
 -- Assumes nothing.
-use Prim.Native.Nat.{ℕ, zero, suc, ◌+◌, ◌*◌, ◌/◌, ◌≤◌, ◌<◌}
-use Rattle.std.specs.Prelude.{List, ◌≡◌, length, get_or}
+use Prim.Native.Nat.{ℕ, zero, suc, ◌+◌, ◌*◌, ◌/◌, ◌≤◌}
+use Rattle.std.specs.Prelude.{List, ◌≡◌, length}
 use Rattle.std.proofs.Math.Path.{refl, sym}
 use Rattle.std.proofs.Common.{◌∙◌, arith}
-use Rattle.facts.specs.Fact.{test, Holds}
+use Rattle.facts.specs.Fact.{test}
 use Rattle.facts.specs.FactLaws.{same_test}
 use Rattle.words.specs.Le.{le, Alike}
 use Rattle.words.specs.LeLaws.{le_in}
-use Rattle.volume.specs.Volume.{length_fits, sum_words, volume_fits, extension_fits, sum_bytes, file_sum, file_fits, section_fits, guid}
+use Rattle.volume.specs.Volume.{sum_words, volume_fits, extension_fits, sum_bytes, file_sum, file_fits, section_fits}
 
 module _ (a b : List ℕ) where
   sum_words_lem : (n k : ℕ) → 2 * n ≤ k → Alike a b 0 k → sum_words a n ≡ sum_words b n

@@ -36,10 +36,8 @@ fn rest_words(image: &[u8], i: usize, k: usize) -> usize
     ensures { (result ≡ sum_from image.now i k) × (result ≤ 65535 * k) }
 {
     let mut sum = 0;
-    let mut j = 0;
-    while j < k {
+    for j in 0..k {
         sum += words::le16(image, 2 * (i + j));
-        j += 1;
     }
     sum
 }
@@ -51,10 +49,8 @@ fn sum_words(image: &[u8], n: usize) -> usize
 {
     let turns = n / 4;
     let mut both = 0;
-    let mut t = 0;
-    while t < turns {
+    for t in 0..turns {
         both += four_words(image, 4 * t);
-        t += 1;
     }
     both % 4294967296 + both / 4294967296 + rest_words(image, 4 * turns, n % 4)
 }

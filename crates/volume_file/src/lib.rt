@@ -1,49 +1,29 @@
 // Rules 3 and 4 of document 01: the header file, with its GUID and its header's sum, and its section.
 #![tactic(auto)]
 
-ghost use Rattle.std.specs.Prelude.{◌≡◌, ◌+◌, ◌*◌, ◌≤◌, length};
+ghost use Rattle.std.specs.Prelude.{◌≡◌, ◌+◌, ◌*◌, ◌≤◌, length, sum};
 ghost use Rattle.facts.specs.Fact.{Tells};
-ghost use Rattle.volume.specs.Volume.{same_at, guid, sum_bytes, file_sum, file_held, file_fits, section_held, room_fits, section_fits};
+ghost use Rattle.volume.specs.Volume.{same_at, guid, file_sum, file_held, file_fits, section_held, room_fits, section_fits};
 
 // The header file's GUID, as it is stored.
 const GUID: [u8; 16] = [
     0xBE, 0x40, 0x27, 0x91, 0x84, 0x22, 0x34, 0x47, 0xB9, 0x71, 0x84, 0xB0, 0x27, 0x35, 0x3F, 0x0C,
 ];
 
-// Whether the bytes of g stand at `at`.
-fn same_at(image: &[u8], at: usize, g: &[u8; 16]) -> bool
-    requires { at + 16 ≤ length image.now }
-    ensures { Tells result (same_at image.now at g.now) }
-{
-    let mut i = 0;
-    while i < 16 {
-        if image[at + i] != g[i] {
-            return false;
-        }
-        i += 1;
-    }
-    true
-}
-
+// Whether it stands at `at`.
 fn is_guid(image: &[u8], at: usize) -> bool
     requires { at + 16 ≤ length image.now }
     ensures { Tells result (same_at image.now at guid) }
 {
-    same_at(image, at, &GUID)
+    image[at..at + 16] == GUID[..]
 }
 
-// The sum of the n bytes from `at` on.
-fn sum_bytes(image: &[u8], at: usize, n: usize) -> usize
-    requires { (at + n ≤ length image.now) × (n ≤ 24) }
-    ensures { (result ≡ sum_bytes image.now at n) × (result ≤ 255 * n) }
+// The sum of a few bytes.
+fn sum_of(s: &[u8]) -> usize
+    requires { length s.now ≤ 24 }
+    ensures { result ≡ sum s.now }
 {
-    let mut sum = 0;
-    let mut i = 0;
-    while i < n {
-        sum += words::byte(image, at + i);
-        i += 1;
-    }
-    sum
+    s.iter().map(|b| *b as usize).sum()
 }
 
 // The sum of a file's header but for the body's check byte and the state.
@@ -51,7 +31,7 @@ pub fn file_sum(image: &[u8], f: usize) -> usize
     requires { f + 24 ≤ length image.now }
     ensures { result ≡ file_sum image.now f }
 {
-    sum_bytes(image, f, 17) + sum_bytes(image, f + 18, 5)
+    sum_of(&image[f..f + 17]) + sum_of(&image[f + 18..f + 23])
 }
 
 // What rule 3 and request #107 want of any file, of at least so many bytes.

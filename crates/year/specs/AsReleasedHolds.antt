@@ -1,9 +1,7 @@
 -- A file that is as released is so byte for byte; and that speaks of something.
 -- Assumes nothing.
-use Rattle.std.specs.Prelude.{ℕ, ◌+◌, ◌≤◌, ◌<◌, ◌⊎◌, ◌≡◌, refl, length, get_or}
-use mathlib.Core.List.{List, [], ◌∷◌}
-use Rattle.std.proofs.Common.{inl, inr, sym, ◌∙◌, arith, ext_get_or}
-use Rattle.std.proofs.Math.Path.{ap}
+use Rattle.std.specs.Prelude.{ℕ, ◌+◌, ◌≤◌, ◌<◌, ◌⊎◌, ◌≡◌, refl, length, get_or, List, [], ◌∷◌}
+use Rattle.std.proofs.Common.{inl, inr, sym, ◌∙◌, arith, ext_get_or, ap}
 use Rattle.std.proofs.Math.Decide.{dec_lt, ℕ_discrete}
 use Rattle.facts.specs.Fact.{Holds}
 use Rattle.words.specs.Le.{le, Bytes}
@@ -17,7 +15,7 @@ use Rattle.move_image.specs.Moving.{moved_image}
 use Rattle.release_steps.specs.MoveStep.{length_after, moved_reads, moved_on, moved_nowhere}
 use Rattle.release.specs.Release.{releasing}
 use Rattle.release_laws.specs.Theorems.{released_legal, empty_moves}
-use Rattle.audit_count.specs.Differences.{differences, settings, strays, entry}
+use Rattle.audit_count.specs.Differences.{differences, entry}
 use Rattle.audit_count.specs.DifferenceLaws.{counts}
 use Rattle.audit.specs.Audit.{shipped_base, reference, told_by, differing, auditing, listed}
 use Rattle.audit.specs.AuditLaws.{Accepted, audit_accepted}

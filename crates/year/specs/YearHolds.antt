@@ -1,6 +1,6 @@
 -- The audit after any sequence of releases, proved.
 -- Assumes nothing.
-use Rattle.std.specs.Prelude.{ℕ, zero, suc, ◌+◌, ◌*◌, ◌/◌, ◌≤◌, ◌<◌, true, List, ◌≡◌, refl, length, get_or}
+use Rattle.std.specs.Prelude.{ℕ, ◌+◌, ◌*◌, ◌≤◌, ◌<◌, true, List, ◌≡◌, length, get_or}
 use Rattle.std.proofs.Common.{inl, inr, sym, ap, ◌∙◌, arith}
 use Rattle.std.proofs.Math.Decide.{dec_lt}
 use Rattle.facts.specs.Fact.{Holds}
@@ -8,7 +8,6 @@ use Rattle.facts.specs.FactLaws.{passes}
 use Rattle.words.specs.Le.{Bytes}
 use Rattle.header.specs.Base.{legal_base}
 use Rattle.answers.specs.declared.Reading.{Reading}
-use Rattle.answers.specs.declared.Moved.{Moved}
 use Rattle.reading_rules.specs.Reading.{reading2, Read2}
 use Rattle.reading_rules.specs.Edition.{guaranteed}
 use Rattle.reading_rules.specs.Settings.{OutsideSettings}
@@ -17,10 +16,10 @@ use Rattle.move_image.specs.Moving.{moved_words, moved_image}
 use Rattle.moves.specs.Moves.{Beside}
 use Rattle.release_steps.specs.MoveStep.{unmoved_byte}
 use Rattle.answers.specs.declared.Audited.{Audited}
-use Rattle.audit_count.specs.Differences.{agrees, differences, setting, settings, strays, bits, entry}
+use Rattle.audit_count.specs.Differences.{agrees, setting, settings, strays, bits, entry}
 use Rattle.audit_count.specs.DifferenceLaws.{counts}
-use Rattle.audit.specs.Audit.{shipped_base, reference, told_by, differing, auditing, Audits, AuditsBytes}
-use Rattle.demands.specs.Calls.{Call, after_all, SheetBytes}
+use Rattle.audit.specs.Audit.{shipped_base, reference, told_by, differing, auditing}
+use Rattle.demands.specs.Calls.{Call, after_all}
 use Rattle.demands.specs.CallsLaws.{accepted_leave}
 use Rattle.demands.specs.Stored.{Store, in_places, in_bytes}
 use Rattle.demands.specs.StoredLaws.{length_listed, place_is, place_kept, length_listed_bytes, bytes_are, byte_kept}
@@ -28,7 +27,7 @@ use Rattle.demands.specs.Editions.{read_too, told_two, reference_two}
 use Rattle.demands.specs.Explains.{Explains}
 use Rattle.demands.specs.Explained.{explains_base, explains_told, ascending, differs_at, all_listed, told_always, told_number, explained_strays}
 use Rattle.demands.specs.MadeLaws.{made_explains}
-use Rattle.year.specs.Year.{Plays, accepted, last_base, set_all, changed, Accounted, Year, YearImage, YearAlone}
+use Rattle.year.specs.Year.{accepted, last_base, set_all, changed, Accounted, Year, YearImage, YearAlone}
 use Rattle.year.specs.YearLaws.{Stands, year_stands, by_fold, same_differences, same_bits}
 
 pub year_image : YearImage

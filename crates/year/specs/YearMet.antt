@@ -3,7 +3,7 @@
 -- refused with 18. The audit then lists owner 2's two bytes and nothing else.
 -- Assumes nothing.
 use Prim.{tt}
-use Rattle.std.specs.Prelude.{ℕ, zero, suc, ◌+◌, ◌≤◌, ◌<◌, true, List, [], ◌∷◌, ◌++◌, ◌≡◌, refl, pos, negsuc, length, get_or}
+use Rattle.std.specs.Prelude.{ℕ, zero, suc, ◌<◌, true, List, [], ◌∷◌, ◌++◌, ◌≡◌, refl, pos, negsuc, length, get_or}
 use Rattle.std.proofs.Common.{sym, ap, ◌∙◌, arith, ext_get_or}
 use Rattle.facts.specs.Fact.{test, all_below}
 use Rattle.facts.specs.Rules.{run}
@@ -14,7 +14,7 @@ use Rattle.answers.specs.declared.Reading.{Reading}
 use Rattle.answers.specs.declared.Moved.{Moved}
 use Rattle.answers.specs.declared.Audited.{Audited}
 use Rattle.answers.specs.After.{after_reading}
-use Rattle.reading_rules.specs.Reading.{rebased, reading2, Read2}
+use Rattle.reading_rules.specs.Reading.{rebased, reading2}
 use Rattle.reading_rules.specs.Small.{small, setting_bytes, small_reading, small_reads_2}
 use Rattle.move_answer.specs.MoveAnswer.{refused_move}
 use Rattle.sheet.specs.Sheet.{body_at}

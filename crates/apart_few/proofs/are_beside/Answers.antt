@@ -5,7 +5,6 @@ use Rattle.facts.specs.FactLaws.{granted}
 use Rattle.items.specs.ItemsLaws.{each_none, each_join}
 use Rattle.apart_front.specs.FrontsLaws.{fronts_none, fronts_join}
 use Rattle.inside_files.specs.Parts as files
-use Rattle.inside_files.specs.PartsWalk as filesWalk
 use Rattle.inside_files.specs.PartsLaws.{first_valid}
 use Rattle.inside_walk.specs.Whole.{spread, walked}
 use Rattle.inside_judge.specs.Rules.{patch_items}
@@ -15,6 +14,8 @@ use Rattle.apart_strokes.specs.StrokesLaws.{false_true}
 use Rattle.apart_few.specs.Few.{besides}
 use Rattle.apart_few.specs.FewLaws.{beside_ordered}
 use Rattle.apart_few.proofs.are_beside.Goals as goal
+use Rattle.inside_files.specs.PartKinds.{same_part, other_part}
+use Rattle.inside_files.specs.declared.PartKind.TheVariants.{End}
 
 pub first-s-requires : goal.first-s-requires
 first-s-requires c =
@@ -37,15 +38,15 @@ pub step-u-requires : goal.step-u-requires
 step-u-requires c =
     let w = c.requires.0 in (w.within, omega (arith, w.within, w.small), c.loop-front.invariant.0)
 
-pub returns-then-p-eq-NO_PART : goal.returns-then-p-eq-NO_PART
-returns-then-p-eq-NO_PART c =
+pub returns-then-eq : goal.returns-then-eq
+returns-then-eq c =
     λ e.
     let a = c.args in
     let xs = a.image.now in
     let ps = patch_items xs a.t a.n in
     let inv = c.loop-front.invariant in
     let f = c.loop-front.front in
-    let ends = c.step-u.ensures.ends c.if-p-eq-NO_PART.true in
+    let ends = c.step-u.ensures.ends (same_part _ End c.eq.ensures c.if-eq.true) in
     beside_ordered ps (walked xs a.v a.f) f (inv.2 f (rw (ends, spread_none xs) (fronts_none f))) inv.1
     (inv.3 (rw (ends, spread_none xs) (each_none (besides ps))))
 
@@ -58,7 +59,7 @@ pub returns-then-not-is_ordered : goal.returns-then-not-is_ordered
 returns-then-not-is_ordered c = λ e. false_true e
 
 pub loop-front-smaller : goal.loop-front-smaller
-loop-front-smaller c = c.step-u.ensures.less c.if-p-eq-NO_PART.false
+loop-front-smaller c = c.step-u.ensures.less (other_part _ End c.eq.ensures c.if-eq.false)
 
 pub loop-front-preserved : goal.loop-front-preserved
 loop-front-preserved c =
@@ -69,7 +70,7 @@ loop-front-preserved c =
     let rest = files.ahead xs a.v c.step-u.result.next in
     let ps = patch_items xs a.t a.n in
     let inv = c.loop-front.invariant in
-    let is = on.goes c.if-p-eq-NO_PART.false in
+    let is = on.goes (other_part _ End c.eq.ensures c.if-eq.false) in
     let ok = granted c.is_ordered.ensures (ap not c.if-not-is_ordered.false) in
     let one = c.pass_part-front.ensures in (
       on.valid,

@@ -1,6 +1,5 @@
 use Rattle.std.specs.Prelude.{not}
 use Rattle.std.proofs.Common.{ap}
-use Prim.Native.Nat.{◌-◌}
 use native.Mathlib.Omega.{arith}
 use borrow.Author.Count.{below_more}
 use Rattle.facts.specs.FactLaws.{granted}
@@ -9,7 +8,7 @@ use Rattle.apart_few.specs.FewLaws.{beside_all}
 use Rattle.apart_few.proofs.is_beside.Goals as goal
 
 pub loop-i-init : goal.loop-i-init
-loop-i-init c = (omega arith, λ j h. absurd (omega arith))
+loop-i-init c = λ j h. absurd (omega arith)
 
 pub spot_at-p-requires : goal.spot_at-p-requires
 spot_at-p-requires c =
@@ -27,10 +26,10 @@ returns-then-not-is_off c = λ e. false_true e
 pub loop-i-preserved : goal.loop-i-preserved
 loop-i-preserved c =
     let inv = c.loop-i.invariant in
-    (omega arith, below_more _ _ inv.1 (rw c.spot_at-p.ensures at (granted c.is_off.ensures (ap not c.if-not-is_off.false))))
+    below_more _ _ inv (rw c.spot_at-p.ensures at (granted c.is_off.ensures (ap not c.if-not-is_off.false)))
 
 pub returns : goal.returns
 returns c =
     λ e.
     let a = c.args in
-    beside_all a.image.now a.t a.n a.x (λ j h. c.loop-i.invariant.1 j (omega arith))
+    beside_all a.image.now a.t a.n a.x (λ j h. c.loop-i.invariant j (omega arith))

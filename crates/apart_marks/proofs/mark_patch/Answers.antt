@@ -1,12 +1,10 @@
 use Rattle.apart_marks.specs.MarksLaws.{patch_none, patch_marked}
-use Prim.Native.Nat.{◌-◌}
 use mathlib.Core.Path.{◌≡◌, sym, ◌∙◌}
 use native.Mathlib.Omega.{arith}
 use Rattle.apart_marks.proofs.mark_patch.Goals as goal
 
 pub loop-i-init : goal.loop-i-init
-loop-i-init c =
-    (patch_none _ _ _ _ c.requires.1, omega arith)
+loop-i-init c = patch_none _ _ _ _ c.requires.1
 
 pub spot_at-p-requires : goal.spot_at-p-requires
 spot_at-p-requires c =
@@ -21,26 +19,16 @@ overflow_add-p c =
 
 pub paint_in-requires : goal.paint_in-requires
 paint_in-requires c =
-    (c.loop-i.invariant.0.long, omega arith, omega arith, omega arith)
-
-pub overflow_add-i : goal.overflow_add-i
-overflow_add-i c =
-    omega arith
-
-pub loop-i-smaller : goal.loop-i-smaller
-loop-i-smaller c =
-    omega arith
+    (c.loop-i.invariant.long, omega arith)
 
 pub loop-i-preserved : goal.loop-i-preserved
-loop-i-preserved c =
-    (patch_marked _ _ _ _ _ _ _ _ c.loop-i.invariant.0 c.spot_at-p.ensures c.paint_in.ensures, omega arith)
+loop-i-preserved c = patch_marked _ _ _ _ _ _ _ _ c.loop-i.invariant c.spot_at-p.ensures c.paint_in.ensures
 
 pub shape_of-marks : goal.shape_of-marks
-shape_of-marks c =
-    c.loop-i.invariant.0.long ∙ sym c.requires.1.long
+shape_of-marks c = c.loop-i.invariant.long ∙ sym c.requires.1.long
 
 pub returns : goal.returns
 returns c =
     let a = c.args in
     let e : c.loop-i.i ≡ a.n = omega arith in
-    rw e at c.loop-i.invariant.0
+    rw e at c.loop-i.invariant

@@ -3,12 +3,8 @@ use native.Mathlib.Omega.{arith}
 use Rattle.apart_marks.proofs.paint_in.Goals as goal
 
 pub paint-requires : goal.paint-requires
-paint-requires c = (
-  clipped_order _ _ _ _ _ c.requires.1 c.clip-a.ensures c.clip-e.ensures,
-  omega (arith, c.clip-e.ensures.small),
-  omega arith,
-  omega arith,
-)
+paint-requires c =
+    (clipped_order _ _ _ _ _ c.requires.1 c.clip-a.ensures c.clip-e.ensures, omega (arith, c.clip-e.ensures.small))
 
 pub returns : goal.returns
 returns c =

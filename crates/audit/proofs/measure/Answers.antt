@@ -10,13 +10,8 @@ returns-then-r-eq0 c =
     ap (λ (n : ℕ). (let t : Counts = record { settings = 0; strays = n; bits = 0 } in t)) c.count.ensures
     ∙ sym (pair_counted a.vendor.now a.shipped.now a.r a.base c.requires c.if-r-eq0.true)
 
-pub modular_difference-four-requires : goal.modular_difference-four-requires
-modular_difference-four-requires c =
-    let a = c.args in
-    pair_small a.vendor.now a.shipped.now a.r a.base c.requires
-
-pub wide_difference-eight-requires : goal.wide_difference-eight-requires
-wide_difference-eight-requires c =
+pub shift_between-d-requires : goal.shift_between-d-requires
+shift_between-d-requires c =
     let a = c.args in
     pair_small a.vendor.now a.shipped.now a.r a.base c.requires
 
@@ -29,5 +24,5 @@ pub returns : goal.returns
 returns c =
     let a = c.args in
     c.count_all.ensures ∙ pair_counts a.vendor.now a.shipped.now a.r a.base c.requires
-    c.if-r-eq0.false c.modular_difference-four.result c.wide_difference-eight.result
-    c.modular_difference-four.ensures c.wide_difference-eight.ensures
+    c.if-r-eq0.false c.shift_between-d.result.four c.shift_between-d.result.eight
+    c.shift_between-d.ensures.0 c.shift_between-d.ensures.1

@@ -38,7 +38,7 @@ loop-u-preserved c =
     let a = c.args in
     let inv = c.loop-u.invariant in
     let step = c.count_step-u in (
-      left_step (by a.vendor.now a.r a.four a.eight) a.shipped.now a.r c.loop-u.u step.result inv.0
+      left_step (by a.vendor.now a.r a.d.four a.d.eight) a.shipped.now a.r c.loop-u.u step.result inv.0
           step.ensures.counted,
       step.ensures.standing,
       omega (arith, inv.2, step.ensures.counted.onward),

@@ -38,7 +38,7 @@ pub loop-t-init : goal.loop-t-init
 loop-t-init c =
     let a = c.args in
     let next = c.start in (
-      left_start (by a.vendor.now a.r a.four a.eight) a.shipped.now a.r next.result,
+      left_start (by a.vendor.now a.r a.d.four a.d.eight) a.shipped.now a.r next.result,
       record {
         most = omega arith;
         known = known_start a.vendor.now a.r a.ranks.now c.requires.0 c.requires.3 next.result next.ensures;
@@ -77,5 +77,5 @@ shape_of-marks c = c.loop-t.invariant.3
 pub returns : goal.returns
 returns c =
     let a = c.args in
-    left_end (by a.vendor.now a.r a.four a.eight) a.shipped.now a.r c.loop-t.t c.loop-t.invariant.0
+    left_end (by a.vendor.now a.r a.d.four a.d.eight) a.shipped.now a.r c.loop-t.t c.loop-t.invariant.0
     (omega (arith, c.requires.1))

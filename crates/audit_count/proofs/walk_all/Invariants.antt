@@ -7,7 +7,7 @@ use mathlib.Core.Path.{◌≡◌}
 use Rattle.audit_count.proofs.walk_all.Given as goal
 
 abbrev pub invariant-loop-t : goal.invariant-loop-t
-invariant-loop-t l = Left (by l.vendor l.r l.four l.eight) l.shipped l.r l.t × Standing l.vendor l.r l.ranks l.t
+invariant-loop-t l = Left (by l.vendor l.r l.d.four l.d.eight) l.shipped l.r l.t × Standing l.vendor l.r l.ranks l.t
     × near.Standing l.vendor l.v l.f l.t.at l.q l.marks × (length l.marks ≡ length l.initial.marks)
 
 abbrev pub decreases-loop-t : goal.decreases-loop-t

@@ -10,5 +10,4 @@ returns-then-is_done c =
 pub returns : goal.returns
 returns c =
     let part = c.next_part-n.ensures in
-    let (low, less) = c.lower.ensures in
-    record { hand = inl low; section = λ h. omega (arith, part.0 h); file = omega (arith, part.1) }
+    record { hand = inl (omega arith); section = λ h. omega (arith, part.0 h); file = omega (arith, part.1) }

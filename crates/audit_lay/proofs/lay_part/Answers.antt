@@ -1,22 +1,12 @@
-use Rattle.std.proofs.Common.{◌≡◌, ◌-◌, arith}
-use Rattle.audit_lay.specs.LayLaws.{laid_none, laid_more}
+use Rattle.std.proofs.Common.{arith}
+use Rattle.audit_lay.specs.LayLaws.{laid_off, laid_part}
 use Rattle.audit_lay.proofs.lay_part.Goals as goal
 
-pub loop-j-init : goal.loop-j-init
-loop-j-init c = let a = c.args in (omega arith, laid_none a.from a.n a.p a.w a.window.now)
-
-pub lay_byte-requires : goal.lay_byte-requires
-lay_byte-requires c = omega (arith, c.loop-j.invariant.1.same_length)
-
-pub loop-j-preserved : goal.loop-j-preserved
-loop-j-preserved c =
+pub returns-then-low-high : goal.returns-then-low-high
+returns-then-low-high c =
     let a = c.args in
-    let byte = c.lay_byte.ensures in
-    let L = c.loop-j in
-    (omega arith, laid_more a.from a.n a.p L.j a.w a.window.now L.window _ L.invariant.1 (rw c.digit_of.ensures at byte))
+    laid_part a.from a.p a.m a.w c.max-low.result c.min-high.result a.window.now _ c.requires.1 c.max-low.ensures c.min-high.ensures c.if-low-high.true
+    (rw c.to_le_bytes-bytes.ensures at c.copy_from_slice.ensures.after)
 
-pub shape_of-window : goal.shape_of-window
-shape_of-window c = c.loop-j.invariant.1.same_length
-
-pub returns : goal.returns
-returns c = let e : c.loop-j.j ≡ c.args.m = omega arith in rw e at c.loop-j.invariant.1
+pub returns-else-low-high : goal.returns-else-low-high
+returns-else-low-high c = let a = c.args in laid_off a.from _ a.p a.m a.w a.window.now (λ i h (x, y). omega arith)

@@ -6,7 +6,7 @@ pub returns-then-m-eq8 : goal.returns-then-m-eq8
 returns-then-m-eq8 c =
     let a = c.args in
     let e : a.m ≡ 8 = c.if-m-eq8.true in
-    rw (c.put64.ensures, e) (laid_whole a.from a.n a.p 8 a.w a.window.now c.requires.0 (omega arith) (omega arith))
+    rw (c.put64.ensures, e) (laid_whole a.from a.p 8 a.w a.window.now (omega arith) (omega arith))
 
 pub overflow_cast-w : goal.overflow_cast-w
 overflow_cast-w c =
@@ -24,7 +24,7 @@ pub returns-then-i-m : goal.returns-then-i-m
 returns-then-i-m c =
     let a = c.args in
     let e : a.m ≡ 4 = ⊎_elim (λ e. e) (λ e. absurd (c.if-m-eq8.false e)) c.requires.1 in
-    rw (c.put32.ensures, e) (laid_whole a.from a.n a.p 4 a.w a.window.now c.requires.0 (omega arith) (omega (arith, e)))
+    rw (c.put32.ensures, e) (laid_whole a.from a.p 4 a.w a.window.now (omega arith) (omega (arith, e)))
 
 pub lay_part-requires : goal.lay_part-requires
 lay_part-requires c = let pre = c.requires in (pre.0, ⊎_elim (λ e. omega arith) (λ e. omega arith) pre.1, pre.2)

@@ -1,9 +1,6 @@
 use Rattle.audit_marks.specs.Marks.{Clear}
-use Prim.Native.Nat.{◌-◌, ◌≤◌}
+use Prim.Native.Nat.{◌≤◌}
 use Rattle.audit_marks.proofs.first_mark.Given as goal
 
 abbrev pub invariant-loop-k : goal.invariant-loop-k
 invariant-loop-k l = (l.i ≤ l.k) × (l.k ≤ l.n) × Clear l.marks l.i l.k
-
-abbrev pub decreases-loop-k : goal.decreases-loop-k
-decreases-loop-k l = l.n - l.k

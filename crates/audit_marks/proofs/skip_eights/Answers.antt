@@ -1,5 +1,4 @@
 use Rattle.audit_marks.specs.MarkLaws.{clear_eight}
-use Prim.Native.Nat.{◌-◌}
 use mathlib.Core.Path.{sym, ◌∙◌}
 use native.Mathlib.Omega.{arith}
 use Rattle.audit_marks.proofs.skip_eights.Goals as goal

@@ -1,11 +1,8 @@
-use Prim.Native.Nat.{ℕ, suc, ◌+◌, ◌-◌, ◌≤◌, ◌<◌}
+use Prim.Native.Nat.{ℕ, ◌+◌, ◌≤◌, ◌<◌}
 use mathlib.Core.Logic.{◌⊎◌}
 use lib.ListN.{length}
 use Rattle.move_image.specs.Fixed.{fixed_at}
 use Rattle.audit_pieces.proofs.first_fixed.Given as goal
 
 abbrev pub invariant-loop-i : goal.invariant-loop-i
-invariant-loop-i l = (l.i ≤ suc l.r.n) × (l.k ≤ length l.image) × ((j : ℕ) → j < l.i → (fixed_at l.image l.r j + 4 ≤ l.at) ⊎ (l.k ≤ fixed_at l.image l.r j))
-
-abbrev pub decreases-loop-i : goal.decreases-loop-i
-decreases-loop-i l = suc l.r.n - l.i
+invariant-loop-i l = (l.k ≤ length l.image) × ((j : ℕ) → j < l.i → (fixed_at l.image l.r j + 4 ≤ l.at) ⊎ (l.k ≤ fixed_at l.image l.r j))

@@ -5,8 +5,5 @@ use Rattle.audit_pieces.proofs.nearer.Goals as goal
 pub returns-then-p-at : goal.returns-then-p-at
 returns-then-p-at c = (omega arith, inl (omega arith))
 
-pub returns-then-p-k : goal.returns-then-p-k
-returns-then-p-k c = (omega arith, inr (omega arith))
-
 pub returns : goal.returns
 returns c = (omega arith, inr (omega arith))

@@ -1,61 +1,49 @@
-use Prim.Native.Nat.{◌-◌, ◌<◌}
-use mathlib.Core.Path.{refl}
 use native.Mathlib.Omega.{arith}
 use lib.ListN.{length}
-use Rattle.audit_list.specs.Filling.{in_words}
 use Rattle.audit_plain.specs.PlainLaws.{room, listing_start, listing_on, listing_end}
 use Rattle.audit_plain.proofs.list.Goals as goal
 
--- there is a place for the difference that the loop has come to
-place : (c : goal.In-loop-at) → let a = c.args in c.loop-at.i < length a.places.now
-place c =
-    let a = c.args in
-    let l = c.loop-at in
-    let (e, long, small, fits, listing) = l.invariant in
-    room a.vendor.now a.shipped.now l.i l.at (length a.places.now) listing.counting (omega arith) fits
-
 pub loop-at-init : goal.loop-at-init
-loop-at-init c =
+loop-at-init g c =
     let a = c.args in
-    let (long, small, fits) = c.requires in
-    (refl, long, small, fits, listing_start a.vendor.now a.shipped.now in_words a.places.now c.next-at.result c.next-at.ensures)
+    listing_start a.vendor.now a.shipped.now g.U.Unit.writing a.places.now
 
-pub overflow_cast-places : goal.overflow_cast-places
-overflow_cast-places c = let (e, long, small, fits, listing) = c.loop-at.invariant in record { fits = omega (arith, listing.counting.most) }
+pub next-requires : goal.next-requires
+next-requires g c = omega (arith, c.loop-at.invariant.counting.most, c.requires.0)
 
-pub overflow_add-places : goal.overflow_add-places
-overflow_add-places c = let (e, long, small, fits, listing) = c.loop-at.invariant in record { fits = omega (arith, listing.counting.most) }
-
-pub offset_bounds-places-i : goal.offset_bounds-places-i
-offset_bounds-places-i c = let (e, long, small, fits, listing) = c.loop-at.invariant in record { fits = omega (arith, listing.counting.most, listing.counting.few) }
-
-pub bounds-places-i : goal.bounds-places-i
-bounds-places-i c = rw c.loop-at.invariant.4.long (place c)
-
-pub overflow_add-i : goal.overflow_add-i
-overflow_add-i c = let (e, long, small, fits, listing) = c.loop-at.invariant in record { fits = omega (arith, listing.counting.most, listing.counting.few) }
+pub overflow_cast-at : goal.overflow_cast-at
+overflow_cast-at g c = let (u, less) = c.in-Some.ensures in record { fits = omega (arith, less, c.requires.0, c.requires.1) }
 
 pub overflow_add-at : goal.overflow_add-at
-overflow_add-at c = let (e, long, small, fits, listing) = c.loop-at.invariant in record { fits = omega (arith, listing.counting.most) }
+overflow_add-at g c = let (u, less) = c.in-Some.ensures in record { fits = omega (arith, less, c.requires.0, c.requires.1) }
 
-pub next-at-requires-in-loop-at : goal.next-at-requires-in-loop-at
-next-at-requires-in-loop-at c = let (e, long, small, fits, listing) = c.loop-at.invariant in (omega arith, omega (arith, long), omega arith)
+pub put-requires : goal.put-requires
+put-requires g c =
+    let a = c.args in
+    let l = c.loop-at in
+    let (u, less) = c.in-Some.ensures in
+    rw l.invariant.long
+    (room a.vendor.now a.shipped.now l.i l.k c.in-Some.at l.invariant.counting u less (g.U.Unit.places (length a.places.now)) c.requires.2)
+
+pub overflow_add-i : goal.overflow_add-i
+overflow_add-i g c = record { fits = omega (arith, c.loop-at.invariant.counting.few, c.loop-at.invariant.counting.most) }
 
 pub loop-at-smaller : goal.loop-at-smaller
-loop-at-smaller c = omega (arith, c.next-at-in-loop-at.ensures.onward, c.next-at-in-loop-at.ensures.most)
+loop-at-smaller g c = let (u, less) = c.in-Some.ensures in omega (arith, u.onward, less)
 
 pub loop-at-preserved : goal.loop-at-preserved
-loop-at-preserved c =
+loop-at-preserved g c =
     let a = c.args in
     let l = c.loop-at in
-    let (e, long, small, fits, listing) = l.invariant in
-    (refl, long, small, fits, listing_on a.vendor.now a.shipped.now in_words a.places.now l.places l.i l.at c.next-at-in-loop-at.result listing (omega arith) c.next-at-in-loop-at.ensures)
+    let (u, less) = c.in-Some.ensures in
+    rw c.put.ensures
+    (listing_on a.vendor.now a.shipped.now g.U.Unit.writing a.places.now l.places l.i l.k c.in-Some.at l.invariant u less)
 
 pub shape_of-places : goal.shape_of-places
-shape_of-places c = c.loop-at.invariant.4.long
+shape_of-places g c = c.loop-at.invariant.long
 
 pub returns : goal.returns
-returns c =
+returns g c =
     let a = c.args in
     let l = c.loop-at in
-    listing_end a.vendor.now a.shipped.now in_words a.places.now l.places l.i l.at l.invariant.4 (omega arith)
+    listing_end a.vendor.now a.shipped.now g.U.Unit.writing a.places.now l.places l.i l.k l.invariant c.in_default.ensures

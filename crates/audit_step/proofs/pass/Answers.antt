@@ -7,7 +7,7 @@ pass_equal-requires c =
     let (g, at, long) = c.requires.guaranteed in
     let (f, near, coming) = c.requires.foremost in (
       g,
-      rw (c.nearer-w.ensures, c.width_of-n.ensures) (reach_nearer a.vendor.now a.r g a.at a.first a.p a.m f near coming),
+      rw (c.min-w.ensures, c.width_of-n.ensures) (reach_nearer a.vendor.now a.r g a.at a.first a.p a.m f near coming),
       at,
       long,
     )

@@ -36,7 +36,7 @@ returns-then-is_same c =
       onward = omega (arith, c.if-at-w.true);
       most = omega (arith, reach.most, c.requires.3);
       clear = λ i h l. c.is_same.ensures c.if-is_same.true i h l
-          ∙ sym (plain xs a.r c.requires.0 a.four a.eight a.at a.w a.m i reach h l);
+          ∙ sym (plain xs a.r c.requires.0 a.d.four a.d.eight a.at a.w a.m i reach h l);
     }
 
 pub moved_word-value-requires : goal.moved_word-value-requires
@@ -59,8 +59,8 @@ returns-then-is_word c =
     let value = c.moved_word-value.result in
     let ships = number_byte a.m a.shipped.now a.w value (λ i. omega (arith, c.type_inv.shipped i))
     (omega (arith, h, c.requires.3)) (c.is_word.ensures c.if-is_word.true) in
-    let same : (i : ℕ) → a.w ≤ i → i < a.w + a.m → get_or (by xs a.r a.four a.eight) i 0 ≡ digit value (i - a.w) = λ i l q. rw
-    c.moved_word-value.ensures (in_word xs a.r c.requires.0 a.four a.eight (bytes c) a.w
+    let same : (i : ℕ) → a.w ≤ i → i < a.w + a.m → get_or (by xs a.r a.d.four a.d.eight) i 0 ≡ digit value (i - a.w) = λ i l q. rw
+    c.moved_word-value.ensures (in_word xs a.r c.requires.0 a.d.four a.d.eight (bytes c) a.w
     a.m i j hj at width l q) in
     record {
       onward = omega (arith, h);

@@ -1,4 +1,3 @@
-use Prim.Native.Nat.{◌-◌}
 use mathlib.Core.Path.{◌≡◌}
 use native.Mathlib.Decide.{dec_lt}
 use native.Mathlib.Omega.{arith}
@@ -10,7 +9,7 @@ loop-k-init c = c.skip-k.ensures
 pub returns-then-b-k : goal.returns-then-b-k
 returns-then-b-k c =
     let L = c.loop-k in
-    record { onward = L.invariant.0; most = omega arith; clear = L.invariant.2; found = λ h e. c.if-b-k.true e }
+    (record { onward = L.invariant.0; most = omega arith; clear = L.invariant.2; found = λ h e. c.if-b-k.true e }, omega arith)
 
 pub loop-k-preserved : goal.loop-k-preserved
 loop-k-preserved c =
@@ -27,4 +26,5 @@ loop-k-preserved c =
 pub returns : goal.returns
 returns c =
     let L = c.loop-k in
-    record { onward = L.invariant.0; most = L.invariant.1; clear = L.invariant.2; found = λ h. absurd (omega arith) }
+    let e : L.k ≡ c.args.to = omega arith in
+    rw e at L.invariant.2

@@ -2,7 +2,7 @@ use Rattle.std.specs.Prelude.{not}
 use Rattle.std.proofs.Common.{ap}
 use Rattle.audit_stretch.specs.StretchLaws.{same_join}
 use borrow.Author.Tests.{not-false}
-use Prim.Native.Nat.{◌+◌, ◌-◌}
+use Prim.Native.Nat.{◌+◌}
 use native.Mathlib.Omega.{arith}
 use Rattle.audit_stretch.proofs.skip_blocks.Goals as goal
 

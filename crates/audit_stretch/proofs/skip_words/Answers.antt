@@ -1,5 +1,5 @@
 use Rattle.audit_stretch.specs.StretchLaws.{same_join}
-use Prim.Native.Nat.{◌+◌, ◌-◌}
+use Prim.Native.Nat.{◌+◌}
 use native.Mathlib.Omega.{arith}
 use Rattle.audit_stretch.proofs.skip_words.Goals as goal
 

@@ -1,5 +1,5 @@
-use Prim.Native.Nat.{◌-◌}
 use native.Mathlib.Omega.{arith}
+use Rattle.audit_tables.specs.Ahead.{Rest}
 use Rattle.audit_tables.specs.AheadLaws.{known_at, rest_more, known_end}
 use Rattle.audit_tables.proofs.next_word.Goals as goal
 
@@ -28,4 +28,10 @@ loop-i-preserved c =
 pub returns : goal.returns
 returns c =
     let a = c.args in
-    let L = c.loop-i in record { known = known_end a.image.now a.r a.ranks.now c.requires.0 c.requires.1 a.at L.i L.invariant (omega arith); at_bound = λ h. absurd (omega arith) }
+    let L = c.loop-i in
+    -- none is listed there
+    let none : Rest a.image.now a.r a.ranks.now a.at a.r.n = λ j h l. let (m, e, f, s) = L.invariant j h l in absurd (omega arith) in
+    record {
+      known = known_end a.image.now a.r a.ranks.now c.requires.0 c.requires.1 a.at a.r.n none (omega arith);
+      at_bound = λ h. absurd (omega arith);
+    }

@@ -6,6 +6,8 @@ use Rattle.audit_window.specs.WindowLaws.{passed_start, passed_next, passed_entr
 use mathlib.Core.Path.{◌≡◌, ap}
 use native.Mathlib.Omega.{arith}
 use Rattle.audit_window.proofs.seek.Goals as goal
+use Rattle.items.specs.Kinds.{other_kind, same_kind}
+use Rattle.items.specs.declared.Kind.TheVariants.{End}
 
 -- the item is passed
 passed : (c : goal.After-start_of-least) →
@@ -15,7 +17,7 @@ passed c =
     let a = c.args in
     passed_next a.image.now a.v a.s a.from c.loop-x.spot c.step-t.result c.loop-x.invariant
     c.step-t.ensures
-    c.if-x-eq-END.false (c.ends_past.ensures c.if-ends_past.false)
+    (other_kind _ End c.eq.ensures c.if-eq.false) (c.ends_past.ensures c.if-ends_past.false)
 
 passed-at-2 : (c : goal.After-past-spot) →
     let a = c.args in
@@ -24,7 +26,7 @@ passed-at-2 c =
     let a = c.args in
     passed_next a.image.now a.v a.s a.from c.loop-x.spot c.step-t.result c.loop-x.invariant
     c.step-t.ensures
-    c.if-x-eq-END.false (c.ends_past.ensures c.if-ends_past.false)
+    (other_kind _ End c.eq.ensures c.if-eq.false) (c.ends_past.ensures c.if-ends_past.false)
 
 pub loop-x-init : goal.loop-x-init
 loop-x-init c =
@@ -34,11 +36,11 @@ loop-x-init c =
 pub step-t-requires : goal.step-t-requires
 step-t-requires c = let p = c.requires.v_in_bounds in (p.0, p.1, c.loop-x.invariant.valid)
 
-pub returns-then-x-eq-END : goal.returns-then-x-eq-END
-returns-then-x-eq-END c =
+pub returns-then-eq : goal.returns-then-eq
+returns-then-eq c =
     let a = c.args in
     sought_end a.image.now a.v a.s a.from c.loop-x.spot c.step-t.result c.loop-x.invariant c.step-t.ensures
-    c.requires.from_in_bounds c.if-x-eq-END.true
+    c.requires.from_in_bounds (same_kind _ End c.eq.ensures c.if-eq.true)
 
 pub start_of-low-requires : goal.start_of-low-requires
 start_of-low-requires c = c.requires.from_in_bounds
@@ -77,7 +79,7 @@ loop-x-smaller c =
     let a = c.args in
     let next = c.step-t.result.next in
     let e : far a.v c.past-spot.result ≡ far a.v (past_of next) = ap (λ (s : Spot). far a.v s) c.past-spot.ensures in
-    omega (arith, e, past_far a.v next, c.step-t.ensures.less c.if-x-eq-END.false)
+    omega (arith, e, past_far a.v next, c.step-t.ensures.less (other_kind _ End c.eq.ensures c.if-eq.false))
 
 pub loop-x-preserved : goal.loop-x-preserved
 loop-x-preserved c =

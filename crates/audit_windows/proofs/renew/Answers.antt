@@ -1,6 +1,6 @@
 use Rattle.audit_fill_window.specs.StandingLaws.{standing_window, standing_telling, standing_refill, next_here, next_none}
 use Rattle.audit_fill_window.specs.Near.{Standing, Refilled}
-use Prim.Native.Nat.{ℕ, ◌-◌}
+use Prim.Native.Nat.{ℕ}
 use mathlib.Core.List.{List}
 use mathlib.Core.Path.{◌∙◌}
 use native.Mathlib.Omega.{arith}

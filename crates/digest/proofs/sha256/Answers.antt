@@ -1,13 +1,13 @@
-use native.Mathlib.Omega.{arith}
+use Rattle.std.proofs.Common.{arith}
 use Rattle.digest.specs.DigestLaws.{digests_short, digests_long, digests_bytes}
 use Rattle.digest.proofs.sha256.Goals as goal
 
 -- Assumes nothing.
-pub returns-then-out-lt32 : goal.returns-then-out-lt32
-returns-then-out-lt32 c = digests_short _ _ (omega arith)
+pub returns-then-out-lt-DIGEST_LEN : goal.returns-then-out-lt-DIGEST_LEN
+returns-then-out-lt-DIGEST_LEN c = digests_short _ _ (omega arith)
 
-pub returns-then-bytes-gt2305843009213693951 : goal.returns-then-bytes-gt2305843009213693951
-returns-then-bytes-gt2305843009213693951 c = digests_long _ _ (omega arith) (omega arith)
+pub returns-then-bytes-gt-LONGEST : goal.returns-then-bytes-gt-LONGEST
+returns-then-bytes-gt-LONGEST c = digests_long _ _ (omega arith) (omega arith)
 
 pub returns : goal.returns
 returns c =

@@ -1,5 +1,4 @@
-use mathlib.Core.Path.{sym}
-use native.Mathlib.Omega.{arith}
+use Rattle.std.proofs.Common.{sym, arith}
 use Rattle.digest_message.specs.PaddedLaws.{apart, padded_in, padded_one, padded_zero, padded_length}
 use Rattle.digest_message.proofs.padded_byte.Goals as goal
 

@@ -1,11 +1,6 @@
-use Prim.Native.Nat.{◌-◌, ◌≤◌, ◌%◌}
-use mathlib.Core.Path.{◌≡◌}
+use Rattle.std.proofs.Common.{◌≡◌, ◌≤◌, ◌%◌}
 use Rattle.digest_rounds.specs.Rounds.{rounds}
 use Rattle.digest_rounds.proofs.all.Given as goal
 
--- Assumes nothing.
 abbrev pub invariant-loop-t : goal.invariant-loop-t
 invariant-loop-t l = (l.t ≤ 64) × (l.t % 4 ≡ 0) × (l.v ≡ rounds l.k l.initial.v l.w l.t)
-
-abbrev pub decreases-loop-t : goal.decreases-loop-t
-decreases-loop-t l = 64 - l.t

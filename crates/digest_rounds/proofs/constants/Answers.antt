@@ -1,4 +1,4 @@
-use mathlib.Core.Path.{refl}
+use Rattle.std.proofs.Common.{refl}
 use Rattle.digest_rounds.specs.Rounds.{K}
 use Rattle.digest_rounds.proofs.constants.Goals as goal
 

@@ -1,8 +1,7 @@
-use mathlib.Core.Path.{refl}
 use Rattle.digest_words.specs.Functions.{Σ₁}
 use Rattle.digest_words.proofs.big1.Goals as goal
 
 -- Assumes nothing.
 pub returns : goal.returns
 unfolding Σ₁
-returns c = refl
+returns c = cc

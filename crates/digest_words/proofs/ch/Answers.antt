@@ -1,4 +1,4 @@
-use mathlib.Core.Path.{refl}
+use Rattle.std.proofs.Common.{refl}
 use Rattle.digest_words.specs.Functions.{Ch}
 use Rattle.digest_words.proofs.ch.Goals as goal
 

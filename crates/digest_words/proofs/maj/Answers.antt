@@ -1,4 +1,4 @@
-use mathlib.Core.Path.{refl}
+use Rattle.std.proofs.Common.{refl}
 use Rattle.digest_words.specs.Functions.{Maj}
 use Rattle.digest_words.proofs.maj.Goals as goal
 

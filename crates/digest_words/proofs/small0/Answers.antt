@@ -1,8 +1,7 @@
-use mathlib.Core.Path.{refl}
 use Rattle.digest_words.specs.Functions.{σ₀}
 use Rattle.digest_words.proofs.small0.Goals as goal
 
 -- Assumes nothing.
 pub returns : goal.returns
 unfolding σ₀
-returns c = refl
+returns c = cc

@@ -1,8 +1,7 @@
-use mathlib.Core.Path.{refl}
 use Rattle.digest_words.specs.Functions.{σ₁}
 use Rattle.digest_words.proofs.small1.Goals as goal
 
 -- Assumes nothing.
 pub returns : goal.returns
 unfolding σ₁
-returns c = refl
+returns c = cc

@@ -1,10 +1,7 @@
-use Prim.Native.Nat.{◌-◌, ◌<◌}
+use Prim.Native.Nat.{◌<◌}
 use lib.ListN.{length}
 use Rattle.fold_bodies.specs.BodiesLaws.{Piling}
 use Rattle.fold_bodies.proofs.lay_pile.Given as goal
 
-abbrev pub invariant-loop-at : goal.invariant-loop-at
-invariant-loop-at l = (l.met < 1024) × Piling l.pile l.words l.n l.ranks l.at l.initial.out l.out
-
-abbrev pub decreases-loop-at : goal.decreases-loop-at
-decreases-loop-at l = length l.pile - l.at
+abbrev pub invariant-loop-sheet : goal.invariant-loop-sheet
+invariant-loop-sheet l = (l.met < 1024) × Piling l.pile.bytes.now l.words (length l.words) l.ranks l.sheet-iterator l.fn.out l.out

@@ -1,11 +1,7 @@
-use Rattle.fold_cells.specs.CellsLaws.{Filling}
-use Prim.Native.Nat.{◌-◌}
 use lib.ListN.{length}
 use mathlib.Core.Path.{◌≡◌}
+use Rattle.fold_cells.specs.CellsLaws.{Filling}
 use Rattle.fold_cells.proofs.fill.Given as goal
 
-abbrev pub invariant-loop-at : goal.invariant-loop-at
-invariant-loop-at l = Filling l.pile l.base l.at l.cells × (length l.cells ≡ length l.initial.cells)
-
-abbrev pub decreases-loop-at : goal.decreases-loop-at
-decreases-loop-at l = length l.pile - l.at
+abbrev pub invariant-loop-sheet : goal.invariant-loop-sheet
+invariant-loop-sheet l = Filling l.pile.bytes.now l.base l.sheet-iterator l.cells × (length l.cells ≡ length l.fn.cells)

@@ -1,7 +1,7 @@
 use Rattle.fold_cells.specs.Cells.{celled}
 use lib.ListN.{get_or, length-set}
-use Prim.Native.Nat.{suc, ◌+◌, ◌-◌}
-use mathlib.Core.Path.{◌≡◌, refl, ◌∙◌}
+use Prim.Native.Nat.{◌+◌}
+use mathlib.Core.Path.{◌≡◌, refl}
 use native.Mathlib.Numerals.{add-one}
 use native.Mathlib.Omega.{arith}
 use Rattle.fold_cells.proofs.set_cells.Goals as goal
@@ -13,8 +13,8 @@ loop-k-init c = (omega arith, refl, refl)
 pub loop-k-preserved : goal.loop-k-preserved
 unfolding celled
 loop-k-preserved c =
-    let e : c.cell_of.result ≡ suc (get_or c.args.sheet.now (c.args.from + c.loop-k.k) 0) = c.cell_of.ensures ∙ add-one _ in
-    (omega arith, rw (add-one, ← c.loop-k.invariant.1, e), simp length-set (omega arith))
+    let e : c.from.result ≡ get_or c.args.sheet.now (c.args.from + c.loop-k.k) 0 = omega (arith, c.from.ensures) in
+    (omega arith, rw (add-one, add-one, ← c.loop-k.invariant.1, e), simp length-set (omega arith))
 
 pub returns : goal.returns
 returns c =

@@ -1,11 +1,8 @@
-use Prim.Native.Nat.{◌-◌, ◌<◌}
+use Prim.Native.Nat.{◌<◌}
 use lib.ListN.{length}
-use Rattle.fold_held.specs.HeldLaws.{Sought}
 use Rattle.fold_runs.specs.Runs.{Out}
+use Rattle.fold_held.specs.HeldLaws.{Sought}
 use Rattle.fold_held.proofs.all_held.Given as goal
 
-abbrev pub invariant-loop-at : goal.invariant-loop-at
-invariant-loop-at l = (l.met < 1024) × Sought l.pile (Out l.words l.n l.top) l.at
-
-abbrev pub decreases-loop-at : goal.decreases-loop-at
-decreases-loop-at l = length l.pile - l.at
+abbrev pub invariant-loop-sheet : goal.invariant-loop-sheet
+invariant-loop-sheet l = (l.met < 1024) × Sought l.pile.bytes.now (Out l.words (length l.words) l.top) l.sheet-iterator

@@ -1,11 +1,8 @@
-use Prim.Native.Nat.{◌-◌, ◌*◌, ◌≤◌}
+use Prim.Native.Nat.{◌*◌, ◌≤◌}
 use lib.ListN.{length}
 use mathlib.Core.Path.{◌≡◌}
 use Rattle.fold_ranks.specs.Ranks.{sum_to, Summed}
 use Rattle.fold_ranks.proofs.rank.Given as goal
 
 abbrev pub invariant-loop-i : goal.invariant-loop-i
-invariant-loop-i l = (l.i ≤ l.n) × (l.sum ≡ sum_to l.words l.i) × (l.sum ≤ 65536 * l.i) × Summed l.words l.i l.ranks × (length l.ranks ≡ length l.initial.ranks)
-
-abbrev pub decreases-loop-i : goal.decreases-loop-i
-decreases-loop-i l = l.n - l.i
+invariant-loop-i l = (l.sum ≡ sum_to l.words l.i) × (l.sum ≤ 65536 * l.i) × Summed l.words l.i l.ranks × (length l.ranks ≡ length l.fn.ranks)

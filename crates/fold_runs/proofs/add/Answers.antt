@@ -1,12 +1,11 @@
-use Prim.Native.Nat.{◌-◌}
-use lib.ListN.{length-set}
+use lib.ListN.{length-set, length-take}
 use native.Mathlib.Omega.{arith}
 use Rattle.fold_runs.specs.RunsLaws.{takes_none, takes_word}
 use Rattle.fold_runs.proofs.add.Goals as goal
 
 pub overflow_cast-seats : goal.overflow_cast-seats
 overflow_cast-seats c =
-    omega (arith, (c.holds.ensures c.if-holds.true).there, c.requires.0.runs)
+    omega (arith, (c.holds.ensures c.if-holds.true).there, length-take c.args.g.runs c.args.words.now, c.requires.0.runs)
 
 pub returns-then-holds : goal.returns-then-holds
 returns-then-holds c =

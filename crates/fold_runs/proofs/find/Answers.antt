@@ -1,10 +1,7 @@
-use Prim.Native.Nat.{◌-◌}
 use Rattle.fold_runs.proofs.find.Goals as goal
 
 pub returns-then-holds : goal.returns-then-holds
-returns-then-holds c =
-    λ h. c.holds.ensures c.if-holds.true
+returns-then-holds c = c.holds.ensures c.if-holds.true
 
 pub returns-then-holds-2 : goal.returns-then-holds-2
-returns-then-holds-2 c =
-    λ h. c.holds-2.ensures c.if-holds-2.true
+returns-then-holds-2 c = c.holds-2.ensures c.if-holds-2.true

@@ -1,9 +1,8 @@
-use Prim.Native.Nat.{◌-◌}
 use mathlib.Core.Bool.{false≢true}
 use Rattle.fold_runs.proofs.holds.Goals as goal
 
-pub returns-then-n-i : goal.returns-then-n-i
-returns-then-n-i c =
+pub returns-then-words-i : goal.returns-then-words-i
+returns-then-words-i c =
     λ e. absurd (false≢true e)
 
 pub returns-then-a-start : goal.returns-then-a-start

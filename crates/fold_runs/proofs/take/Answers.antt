@@ -1,4 +1,3 @@
-use Prim.Native.Nat.{◌-◌}
 use Rattle.fold_runs.specs.RunsLaws.{takes_after}
 use Rattle.fold_runs.proofs.take.Goals as goal
 

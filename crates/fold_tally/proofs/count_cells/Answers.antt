@@ -1,5 +1,4 @@
 use Rattle.fold_tally.specs.TallyLaws.{through_one, through_none, through_small, through_past, small_up}
-use Prim.Native.Nat.{◌-◌}
 use lib.ListN.{length}
 use mathlib.Core.Path.{◌≡◌, sym, ◌∙◌}
 use native.Mathlib.Omega.{arith}

@@ -5,4 +5,4 @@ use Rattle.fold_ways.proofs.by_many.Goals as goal
 
 pub returns : goal.returns
 returns c =
-    way_kept c.args.pile.now c.args.out.now _ (many_counted _ (c.requires.1 (omega arith))) (many_out _)
+    way_kept c.args.pile.now.bytes.now c.args.out.now _ (many_counted _ (c.requires (omega arith))) (many_out _)

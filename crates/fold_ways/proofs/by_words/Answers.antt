@@ -1,7 +1,5 @@
 use Rattle.std.specs.Prelude.{not}
-use Prim.Native.Nat.{◌-◌}
 use mathlib.Core.Path.{ap}
-use native.Mathlib.Omega.{arith}
 use Rattle.fold_pile.specs.PileLaws.{is_piled}
 use Rattle.fold_ways.specs.RunLaws.{many, known_whole}
 use borrow.Author.Tests.{not-false}
@@ -12,8 +10,8 @@ use Rattle.fold_ways.proofs.by_words.Goals as goal
 pub by_many-requires : goal.by_many-requires
 unfolding Bytes
 by_many-requires c =
-    (c.requires.0, λ h. many _ _ _ _ (known_whole c.requires.1 (c.rising.ensures (not-false c.rising.result (ap not c.if-not-rising.false)))) (set_bounded c.args.pile.now (λ k. omega (arith, c.type_inv.pile k)) (is_piled _ c.requires.0)) h)
+    (λ h. many _ _ _ _ (known_whole c.requires.0 (c.rising.ensures (not-false c.rising.result (ap not c.if-not-rising.false)))) (set_bounded c.args.pile.now.bytes.now c.args.pile.now.in_range (is_piled _ c.args.pile.now.passed)) h)
 
 pub by_runs-requires : goal.by_runs-requires
 by_runs-requires c =
-    (c.requires.0, rw c.if-top-ne4295032831.false at (known_whole c.requires.1 (c.rising.ensures (not-false c.rising.result (ap not c.if-not-rising.false)))), c.requires.2, c.requires.3, c.requires.4)
+    (rw c.if-top-ne4295032831.false at (known_whole c.requires.0 (c.rising.ensures (not-false c.rising.result (ap not c.if-not-rising.false)))), c.requires.1, c.requires.2)

@@ -1,7 +1,7 @@
 use Rattle.fold_tally.specs.TallyLaws.{through_one, through_none, through_small, through_past, small_up}
 use Rattle.fold_sheet.specs.Placing.{placed_cells}
 use Rattle.fold_sheet.specs.WindowLaws.{cells_one, cells_none, cells_past, length_cells}
-use Prim.Native.Nat.{◌+◌, ◌-◌}
+use Prim.Native.Nat.{◌+◌}
 use lib.ListN.{length}
 use mathlib.Core.Path.{◌≡◌, refl, sym, ap, ◌∙◌}
 use native.Mathlib.Omega.{arith}

@@ -1,5 +1,5 @@
 use native.Mathlib.Omega.{arith}
-use Prim.Native.Nat.{◌+◌, ◌-◌}
+use Prim.Native.Nat.{◌+◌}
 use mathlib.Core.Path.{refl, ◌∙◌}
 use Rattle.text_lines.specs.LineLaws.{wrote_length}
 use Rattle.hex_parts.specs.Told.{minus_twelve}
@@ -65,16 +65,6 @@ text_length-at-requires c =
 pub overflow_sub-at : goal.overflow_sub-at
 overflow_sub-at c = omega (arith, c.text_length-at.ensures)
 
-pub overflow_add-i-in-loop-i : goal.overflow_add-i-in-loop-i
-overflow_add-i-in-loop-i c = omega (
-  arith,
-  c.loop-i-test.true,
-  c.requires.0.most,
-)
-
-pub loop-i-smaller : goal.loop-i-smaller
-loop-i-smaller c = omega (arith, c.loop-i-test.true)
-
 pub loop-i-preserved : goal.loop-i-preserved
 loop-i-preserved c =
     let a = c.args in
@@ -94,3 +84,12 @@ shape_of-out c = c.loop-i.invariant.0
 
 pub returns : goal.returns
 returns c = got_all c.loop-i-test.false c.requires.1 c.loop-i.invariant.1
+
+pub returns-2 : goal.returns-2
+returns-2 c =
+    let a = c.args in
+    let l = c.loop-i in
+    let h = c.loop-i-test.true in
+    got_all {i = l.i + 16} (omega arith) c.requires.1
+    (got_next a.text.now a.base a.n a.out.now l.out l.at l.i c.part_length-d.result h l.invariant.1 c.part_length-d.ensures _ _ _ _
+    c.data_at-p.ensures (minus_twelve _ a.base (l.i + c.part_length-d.result) c.text_length-at.ensures) c.put_bytes-at.ensures)

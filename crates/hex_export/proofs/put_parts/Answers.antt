@@ -3,7 +3,7 @@ use Rattle.text_lines.specs.LineLaws.{wrote_length}
 use Rattle.hex_text.specs.Sizes.{length_upper}
 use Rattle.hex_export.specs.PartLaws.{parts_none, parts_room, parts_next, parts_all}
 use native.Mathlib.Omega.{arith}
-use Prim.Native.Nat.{◌-◌}
+use Prim.Native.Nat.{◌+◌}
 use mathlib.Core.Path.{◌≡◌}
 use lib.ListN.{length}
 use Rattle.hex_export.proofs.put_parts.Goals as goal
@@ -26,16 +26,6 @@ put_part-at-requires c =
     c.put_upper-at.ensures in
     (rw e (parts_room r.even in-loop l.invariant.1 r.room l.invariant.2), omega (arith, in-loop), omega (arith, in-loop, r.ends))
 
-pub overflow_add-i : goal.overflow_add-i
-overflow_add-i c = omega (
-  arith,
-  c.loop-i-test.true,
-  c.requires.most,
-)
-
-pub loop-i-smaller : goal.loop-i-smaller
-loop-i-smaller c = omega (arith, c.loop-i-test.true)
-
 pub loop-i-preserved : goal.loop-i-preserved
 loop-i-preserved c =
     let l = c.loop-i in
@@ -47,3 +37,7 @@ shape_of-out c = c.loop-i.invariant.0 ∙ wrote_length c.put_upper-at.ensures
 
 pub returns : goal.returns
 returns c = parts_all c.loop-i-test.false c.put_upper-at.ensures c.loop-i.invariant.2
+
+pub returns-2 : goal.returns-2
+returns-2 c =
+    parts_all {i = c.loop-i.i + 16} (omega arith) c.put_upper-at.ensures (parts_next c.loop-i-test.true c.loop-i.invariant.2 c.put_part-at.ensures)

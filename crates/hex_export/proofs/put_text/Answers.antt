@@ -10,7 +10,7 @@ put_line-requires c =
     let w = c.put_parts-at.ensures in
     let e = wrote_length w in
     let f = end_room r w in
-    (omega arith, omega arith, omega arith, omega arith)
+    (omega arith, omega arith, omega arith)
 
 pub returns : goal.returns
 unfolding end_line

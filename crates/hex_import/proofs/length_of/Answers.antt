@@ -46,9 +46,7 @@ text_length-requires-2 c = let p = c.loop-high.invariant in (omega (arith, p.lea
 
 pub returns-then-text_length-size-2 : goal.returns-then-text_length-size-2
 returns-then-text_length-size-2 c =
-    let l = c.loop-high in
-    let end = c.loop-high-test.false in
-    halved_none l.invariant (omega arith) (λ e. c.if-text_length-size-2.true (c.text_length-2.ensures ∙ e))
+    halved_none c.loop-high.invariant (omega (arith, c.loop-high-test.false)) (λ e. c.if-text_length-size-2.true (c.text_length-2.ensures ∙ e))
 
 pub returns : goal.returns
 returns c = halved c.loop-high.invariant (sym c.text_length-2.ensures ∙ c.if-text_length-size-2.false)

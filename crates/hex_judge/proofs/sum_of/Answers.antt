@@ -1,9 +1,5 @@
 use Rattle.std.specs.Prelude.{not}
-use Rattle.std.proofs.Common.{ap}
-use native.Mathlib.Omega.{arith}
-use Prim.Native.Nat.{◌+◌, ◌-◌, ◌*◌}
-use mathlib.Core.Path.{◌≡◌, refl}
-use native.Mathlib.Numerals.{add-one}
+use Rattle.std.proofs.Common.{◌+◌, ◌*◌, refl, ap, arith, add-one}
 use Rattle.facts.specs.FactLaws.{granted, refuted}
 use Rattle.hex_judge.specs.Stands.{bytes_at}
 use Rattle.hex_judge.specs.StandsLaws.{stands_at, stands_more, total_more, byte_small}
@@ -11,36 +7,22 @@ use Rattle.hex_judge.proofs.sum_of.Goals as goal
 
 pub loop-j-init : goal.loop-j-init
 unfolding bytes_at
-loop-j-init c = (omega arith, omega arith, refl, omega arith)
+loop-j-init c = record { there = omega arith; is = refl; small = omega arith }
 
 pub returns-then-not-is_pair : goal.returns-then-not-is_pair
 returns-then-not-is_pair c =
     let a = c.args in
-    let l = c.loop-j in
-    let byte = c.byte_at-b.ensures in
-    let no-digits = refuted c.is_pair.ensures (ap not c.if-not-is_pair.true) in (
-      record {
-        sum = λ h. absurd (omega arith);
-        bad = λ h g. no-digits (rw byte (stands_at a.text.now a.at l.j a.d c.loop-j-test.true g));
-      },
-      omega arith,
-    )
+    λ g. refuted c.is_pair.ensures (ap not c.if-not-is_pair.true)
+    (rw c.byte_at-b.ensures (stands_at a.text.now a.at c.loop-j.j a.d (omega arith) g))
 
 pub loop-j-preserved : goal.loop-j-preserved
 loop-j-preserved c =
     let a = c.args in
     let l = c.loop-j in
     let byte = c.byte_at-b.ensures in
-    let digits = rw byte at (granted c.is_pair.ensures (ap not c.if-not-is_pair.false)) in (
-      omega arith,
-      rw add-one (stands_more a.text.now a.at l.j l.invariant.1 digits),
-      rw (add-one, total_more a.text.now a.at l.j) (omega (arith, byte, l.invariant.2)),
-      omega (arith, byte, byte_small a.text.now (a.at + 2 * l.j)),
-    )
-
-pub returns : goal.returns
-returns c =
-    let a = c.args in
-    let l = c.loop-j in
-    let e : l.j ≡ a.d = omega arith in
-    (record { sum = λ h. (rw e at l.invariant.1, rw e at l.invariant.2); bad = λ h. absurd (omega arith) }, omega arith)
+    let digits = rw byte at (granted c.is_pair.ensures (ap not c.if-not-is_pair.false)) in
+    record {
+      there = rw add-one (stands_more a.text.now a.at l.j l.invariant.there digits);
+      is = rw (add-one, total_more a.text.now a.at l.j) (omega (arith, byte, l.invariant.is));
+      small = omega (arith, byte, byte_small a.text.now (a.at + 2 * l.j), l.invariant.small);
+    }

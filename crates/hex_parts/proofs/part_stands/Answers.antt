@@ -8,7 +8,7 @@ use Rattle.hex_text.specs.Sizes.{part_stays}
 use Rattle.hex_judge.specs.Stands.{stands, bytes_at}
 use Rattle.hex_parts.specs.Decoded.{data_at}
 use Rattle.hex_parts.specs.DecodedLaws.{data_stays, data_turns, part_split, part_joined}
-use Rattle.hex_parts.specs.Told.{tells_so}
+use Rattle.hex_judge.specs.StandsLaws.{tells_so}
 use Rattle.hex_parts.proofs.part_stands.Goals as goal
 
 pub returns-then-not-turns_at : goal.returns-then-not-turns_at

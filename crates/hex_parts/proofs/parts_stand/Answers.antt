@@ -1,7 +1,7 @@
 use Rattle.std.specs.Prelude.{not}
 use Rattle.std.proofs.Common.{ap}
 use native.Mathlib.Omega.{arith}
-use Prim.Native.Nat.{◌+◌, ◌-◌}
+use Prim.Native.Nat.{◌+◌}
 use Rattle.facts.specs.FactLaws.{granted, refuted}
 use Rattle.hex_text.specs.Sizes.{chunk}
 use Rattle.hex_parts.specs.Told.{told_none, told_next, told_not, told_all, upper_first, fits_part, minus_twelve}
@@ -68,17 +68,6 @@ text_length-at-requires c =
 pub overflow_sub-at : goal.overflow_sub-at
 overflow_sub-at c = omega (arith, c.text_length-at.ensures)
 
-pub overflow_add-i-in-loop-i : goal.overflow_add-i-in-loop-i
-overflow_add-i-in-loop-i c =
-    let a = c.args in
-    let l = c.loop-i in
-    let h = c.loop-i-test.true in
-    let is = c.part_length-d.ensures in
-    omega (arith, h, c.requires.most)
-
-pub loop-i-smaller : goal.loop-i-smaller
-loop-i-smaller c = omega (arith, c.loop-i-test.true)
-
 pub loop-i-preserved : goal.loop-i-preserved
 loop-i-preserved c =
     let a = c.args in
@@ -90,5 +79,16 @@ loop-i-preserved c =
     (minus_twelve _ a.base (l.i + c.part_length-d.result) c.text_length-at.ensures)
     (granted c.part_stands.ensures (ap not c.if-not-part_stands.false))
 
-pub returns : goal.returns
-returns c = record { says = told_all c.loop-i-test.false c.loop-i.invariant }
+pub returns-else-not-upper_stands : goal.returns-else-not-upper_stands
+returns-else-not-upper_stands c = record { says = told_all c.loop-i-test.false c.loop-i.invariant }
+
+pub returns-else-not-part_stands : goal.returns-else-not-part_stands
+returns-else-not-part_stands c =
+    let a = c.args in
+    let l = c.loop-i in
+    record {
+      says = told_all {i = l.i + 16} (omega arith)
+          (told_next a.text.now a.base a.n l.at l.i c.part_length-d.result c.requires.even c.loop-i-test.true l.invariant
+          c.part_length-d.ensures _ (minus_twelve _ a.base (l.i + c.part_length-d.result) c.text_length-at.ensures)
+          (granted c.part_stands.ensures (ap not c.if-not-part_stands.false)));
+    }

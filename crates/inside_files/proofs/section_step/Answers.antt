@@ -9,7 +9,8 @@ use Rattle.inside_files.proofs.section_step.Goals as goal
 pub returns-then-not-section_held : goal.returns-then-not-section_held
 returns-then-not-section_held c =
     let a = c.args in
-    record {
+    rw c.last.ensures
+    (record {
       ends = λ z. absurd (omega arith);
       goes = λ h.
           ahead_cut a.image.now a.v a.c _ c.requires.3
@@ -18,7 +19,7 @@ returns-then-not-section_held c =
       valid = record { within = omega arith; at_small = omega arith; file_small = c.requires.2.file_small };
       inside = λ z. absurd (omega arith);
       small = omega (arith, c.requires);
-    }
+    })
 
 pub le24-size-requires : goal.le24-size-requires
 le24-size-requires c = omega (arith, (granted c.section_held.ensures (ap not c.if-not-section_held.false)))

@@ -2,7 +2,6 @@ use mathlib.Core.List.{[]}
 use mathlib.Core.Path.{refl}
 use native.Mathlib.Omega.{arith}
 use Rattle.inside_files.specs.Parts as files
-use Rattle.inside_files.specs.PartsWalk as filesWalk
 use Rattle.inside_files.specs.PartsLaws.{first_valid}
 use Rattle.inside_walk.specs.Whole.{spread}
 use Rattle.inside_judge.specs.JudgesLaws.{judges_none, on_none}
@@ -10,42 +9,40 @@ use Rattle.inside_judge.specs.RunsLaws.{on_join}
 use Rattle.inside_judge.specs.Parts.{part_items}
 use Rattle.inside_judge.specs.PartsLaws.{spread_next, spread_none, walked_parts}
 use Rattle.inside_judge.proofs.judge.Goals as goal
+use Rattle.inside_files.specs.PartKinds.{same_part, other_part}
+use Rattle.inside_files.specs.declared.PartKind.TheVariants.{End}
 
-pub first-s-requires : goal.first-s-requires
-first-s-requires c =
-    let w = c.requires.0 in (w.head, w.small)
-
-pub loop-t-init : goal.loop-t-init
-loop-t-init c =
+pub loop-limits-init : goal.loop-limits-init
+loop-limits-init c =
     let a = c.args in
     let xs = a.image.now in
-    let w = c.requires.0 in
+    let w = c.requires in
     rw c.first-s.ensures
     (first_valid xs a.v a.f (omega (arith, w.within, w.small)) w.ends w.low w.section, λ u on. rw (walked_parts xs a.v a.f) on)
 
 pub step-t-requires : goal.step-t-requires
 step-t-requires c =
-    let w = c.requires.0 in (w.within, omega (arith, w.within, w.small), c.loop-t.invariant.0)
+    let w = c.requires in (w.within, omega (arith, w.within, w.small), c.loop-limits.invariant.0)
 
-pub returns-then-p-eq-NO_PART : goal.returns-then-p-eq-NO_PART
-returns-then-p-eq-NO_PART c =
+pub returns-then-eq : goal.returns-then-eq
+returns-then-eq c =
     let a = c.args in
     let xs = a.image.now in
-    let r = c.loop-t.r in
-    c.loop-t.invariant.1 r (rw (c.step-t.ensures.ends c.if-p-eq-NO_PART.true, spread_none xs) (on_none a.E a.c a.z r)) a.front []
-    (judges_none a.E a.c a.z _ refl refl refl)
+    let r = c.loop-limits.r in
+    c.loop-limits.invariant.1 r (rw (c.step-t.ensures.ends (same_part _ End c.eq.ensures c.if-eq.true), spread_none xs) (on_none a.limits r)) a.front []
+    (judges_none a.limits _ refl refl refl)
 
 pub judge_part-r-requires : goal.judge_part-r-requires
 judge_part-r-requires c =
-    let w = c.requires.0 in
+    let w = c.requires in
     let on = c.step-t.ensures in
-    record { image_len_bound = (w.small, on.small, c.requires.1, c.requires.2); le_len = λ k. let i = on.inside k in (i.0, omega (arith, i.1, w.within)) }
+    record { image_len_bound = (w.small, on.small); le_len = λ k. let i = on.inside k in (i.0, omega (arith, i.1, w.within)) }
 
-pub loop-t-smaller : goal.loop-t-smaller
-loop-t-smaller c = c.step-t.ensures.less c.if-p-eq-NO_PART.false
+pub loop-limits-smaller : goal.loop-limits-smaller
+loop-limits-smaller c = c.step-t.ensures.less (other_part _ End c.eq.ensures c.if-eq.false)
 
-pub loop-t-preserved : goal.loop-t-preserved
-loop-t-preserved c =
+pub loop-limits-preserved : goal.loop-limits-preserved
+loop-limits-preserved c =
     let a = c.args in
     let xs = a.image.now in
     let on = c.step-t.ensures in
@@ -53,8 +50,8 @@ loop-t-preserved c =
     let rest = files.ahead xs a.v c.step-t.result.next in (
       on.valid,
       λ u then.
-          c.loop-t.invariant.1 u
-          (rw (on.goes c.if-p-eq-NO_PART.false, spread_next xs p rest)
-          (on_join (part_items xs p) (spread xs rest) a.E a.c a.z c.loop-t.r c.judge_part-r.result u
+          c.loop-limits.invariant.1 u
+          (rw (on.goes (other_part _ End c.eq.ensures c.if-eq.false), spread_next xs p rest)
+          (on_join (part_items xs p) (spread xs rest) a.limits c.loop-limits.r c.judge_part-r.result u
           c.judge_part-r.ensures then)),
     )

@@ -6,9 +6,9 @@ use Rattle.inside_judge.specs.Judges.{JudgesOn}
 use Rattle.inside_judge.proofs.judge.Given as goal
 
 -- whatever judges what is ahead, after what is passed, judges all
-abbrev pub invariant-loop-t : goal.invariant-loop-t
-invariant-loop-t l = filesWalk.Valid l.v l.s
-    × ((u : Judged) → JudgesOn (spread l.image (files.ahead l.image l.v l.s)) l.E l.c l.z l.r u → JudgesOn (walked l.image l.v l.f) l.E l.c l.z l.initial.r u)
+abbrev pub invariant-loop-limits : goal.invariant-loop-limits
+invariant-loop-limits l = filesWalk.Valid l.v l.s
+    × ((u : Judged) → JudgesOn (spread l.image (files.ahead l.image l.v l.s)) l.limits l.r u → JudgesOn (walked l.image l.v l.f) l.limits l.initial.r u)
 
-abbrev pub decreases-loop-t : goal.decreases-loop-t
-decreases-loop-t l = filesWalk.far l.v l.s
+abbrev pub decreases-loop-limits : goal.decreases-loop-limits
+decreases-loop-limits l = filesWalk.far l.v l.s

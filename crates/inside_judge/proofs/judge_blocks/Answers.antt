@@ -16,25 +16,6 @@ loop-used-init c =
     let e : a.m.size - 0 ≡ a.m.size = omega arith in
     rw e at on
 
-pub block_at-t-requires : goal.block_at-t-requires
-block_at-t-requires c = (c.requires.0, omega arith)
-
-pub advance-front-requires : goal.advance-front-requires
-advance-front-requires c = c.block_at-t.ensures.small
-
-pub note-s-requires : goal.note-s-requires
-note-s-requires c =
-    (c.block_at-t.ensures.small, c.requires.1, c.requires.2, c.advance-front.ensures)
-
-pub judge_entries-r-requires : goal.judge_entries-r-requires
-judge_entries-r-requires c =
-    let pre = c.requires in
-    let valid = c.block_at-t.ensures.valid in
-    (pre.0, valid.page_small, valid.within, pre.1, pre.2)
-
-pub loop-used-smaller : goal.loop-used-smaller
-loop-used-smaller c = c.block_at-t.ensures.less
-
 pub loop-used-preserved : goal.loop-used-preserved
 loop-used-preserved c =
     λ u on.
@@ -44,14 +25,14 @@ loop-used-preserved c =
     let entries = entries_from xs a.m next.page next.at next.left in
     let blocks = blocks_from xs a.m (a.m.size - next.used) next.used in
     let noted = c.note-s in
-    let rest = on_join entries blocks a.E a.c a.z noted.result c.judge_entries-r.result u c.judge_entries-r.ensures on in
+    let rest = on_join entries blocks a.limits noted.result c.judge_entries-r.result u c.judge_entries-r.ensures on in
     c.loop-used.invariant u
     (rw c.block_at-t.ensures.all
-    (on_first c.block_at-t.result.item (entries ++ blocks) a.E a.c a.z c.loop-used.r noted.result u noted.ensures rest))
+    (on_first c.block_at-t.result.item (entries ++ blocks) a.limits c.loop-used.r noted.result u noted.ensures rest))
 
 pub returns : goal.returns
 returns c =
     let a = c.args in
     let used = c.loop-used.used in
     c.loop-used.invariant c.loop-used.r
-    (rw (blocks_end a.image.now a.m (a.m.size - used) used (omega arith)) (on_none a.E a.c a.z c.loop-used.r))
+    (rw (blocks_end a.image.now a.m (a.m.size - used) used (omega arith)) (on_none a.limits c.loop-used.r))

@@ -5,7 +5,7 @@ use Rattle.inside_judge.specs.Judges.{JudgesOn}
 use Rattle.inside_judge.proofs.judge_blocks.Given as goal
 
 abbrev pub invariant-loop-used : goal.invariant-loop-used
-invariant-loop-used l = (u : Judged) → JudgesOn (blocks_from l.image l.m (l.m.size - l.used) l.used) l.E l.c l.z l.r u → JudgesOn (blocks_from l.image l.m l.m.size 0) l.E l.c l.z l.initial.r u
+invariant-loop-used l = (u : Judged) → JudgesOn (blocks_from l.image l.m (l.m.size - l.used) l.used) l.limits l.r u → JudgesOn (blocks_from l.image l.m l.m.size 0) l.limits l.initial.r u
 
 abbrev pub decreases-loop-used : goal.decreases-loop-used
 decreases-loop-used l = l.m.size - l.used

@@ -12,7 +12,7 @@ pub judge_rest-requires : goal.judge_rest-requires
 judge_rest-requires c =
     let pre = c.requires in
     let q = c.page_of-q.ensures in
-    (pre.0, paged_own _ _ _ _ q, omega (arith, q.is, pre.1), pre.2, pre.3, pre.4)
+    (pre.0, paged_own _ _ _ _ q, omega (arith, q.is, pre.1), pre.2)
 
 pub returns-then-not-is_clear : goal.returns-then-not-is_clear
 returns-then-not-is_clear c = rw c.page_of-q.ensures.is at c.judge_rest.ensures
@@ -20,7 +20,7 @@ returns-then-not-is_clear c = rw c.page_of-q.ensures.is at c.judge_rest.ensures
 pub judge_unordered-requires : goal.judge_unordered-requires
 judge_unordered-requires c =
     let pre = c.requires in
-    let q = c.page_of-q.ensures in record { fits = (pre.0, paged_own _ _ _ _ q, omega (arith, q.is, pre.1), omega (arith, c.pass_words-passed.ensures.0, pre.2), pre.3, pre.4); holds = (granted c.is_clear.ensures (ap not c.if-not-is_clear.false), omega (arith, q.within, pre.0.within, pre.0.long)) }
+    let q = c.page_of-q.ensures in record { fits = (pre.0, paged_own _ _ _ _ q, omega (arith, q.is, pre.1), omega (arith, c.pass_words-passed.ensures.0, pre.2)); holds = (granted c.is_clear.ensures (ap not c.if-not-is_clear.false), omega (arith, q.within, pre.0.within, pre.0.long)) }
 
 pub returns : goal.returns
 returns c =
@@ -29,9 +29,9 @@ returns c =
     let q = c.page_of-q.result in
     let n = c.pass_words-passed.result.count in
     let clear = granted c.is_clear.ensures (ap not c.if-not-is_clear.false) in
-    let run = gap_on xs a.m q (paged_own _ _ _ _ c.page_of-q.ensures) a.E a.c a.z clear a.at n _ a.judged
+    let run = gap_on xs a.m q (paged_own _ _ _ _ c.page_of-q.ensures) a.limits clear a.at n _ a.judged
     c.later-r.result c.pass_words-passed.ensures.1 c.later-r.ensures in
-    let all = on_join _ _ a.E a.c a.z a.judged c.later-r.result c.judge_unordered.result run c.judge_unordered.ensures in
+    let all = on_join _ _ a.limits a.judged c.later-r.result c.judge_unordered.result run c.judge_unordered.ensures in
     let cut = entries_cut xs a.m q.page a.at n (a.k - n) in
     let e : n + (a.k - n) ≡ a.k = omega (arith, c.pass_words-passed.ensures.0) in
     rw c.page_of-q.ensures.is at (rw e at (rw (← cut) at all))

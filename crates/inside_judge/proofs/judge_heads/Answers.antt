@@ -8,19 +8,7 @@ use Rattle.inside_judge.specs.PartsLaws.{on_first, start_heads}
 use Rattle.inside_judge.proofs.judge_heads.Goals as goal
 
 pub loop-k-init : goal.loop-k-init
-loop-k-init c = λ u on. rw (start_heads _ _ c.start-k.ensures) at on
-
-pub head_item-x-requires : goal.head_item-x-requires
-head_item-x-requires c =
-    let fits = c.requires.0 in
-    (fits.base_up, fits.base_within, omega (arith, fits.rows_within, fits.within, fits.long), fits.pe_up)
-
-pub pass-front-requires : goal.pass-front-requires
-pass-front-requires c = c.head_item-x.ensures.1
-
-pub note-r-requires : goal.note-r-requires
-note-r-requires c =
-    (c.head_item-x.ensures.1, c.requires.1, c.requires.2, c.pass-front.ensures)
+loop-k-init c = λ u on. rw (start_heads _ _ c.start-heads.ensures) at on
 
 pub loop-k-preserved : goal.loop-k-preserved
 loop-k-preserved c =
@@ -29,10 +17,10 @@ loop-k-preserved c =
     let k = c.loop-k.k in
     c.loop-k.invariant u
     (rw (heads_next a.m k (omega arith), ← c.head_item-x.ensures.0)
-    (on_first c.head_item-x.result (heads_from a.m (k - 1)) a.E a.c a.z c.loop-k.r c.note-r.result u c.note-r.ensures on))
+    (on_first c.head_item-x.result (heads_from a.m (k - 1)) a.limits c.loop-k.r c.note-r.result u c.note-r.ensures on))
 
 pub returns : goal.returns
 returns c =
     let a = c.args in
     let e : c.loop-k.k ≡ 0 = omega arith in
-    c.loop-k.invariant c.loop-k.r (rw (e, heads_none a.m) (on_none a.E a.c a.z c.loop-k.r))
+    c.loop-k.invariant c.loop-k.r (rw (e, heads_none a.m) (on_none a.limits c.loop-k.r))

@@ -1,11 +1,7 @@
-use Prim.Native.Nat.{◌-◌}
 use Rattle.inside_blocks.specs.Blocks.{heads_from, head_count}
 use Rattle.inside_judge.specs.declared.Judged.{Judged}
 use Rattle.inside_judge.specs.Judges.{JudgesOn}
 use Rattle.inside_judge.proofs.judge_heads.Given as goal
 
 abbrev pub invariant-loop-k : goal.invariant-loop-k
-invariant-loop-k l = (u : Judged) → JudgesOn (heads_from l.m l.k) l.E l.c l.z l.r u → JudgesOn (heads_from l.m (head_count l.m)) l.E l.c l.z l.initial.r u
-
-abbrev pub decreases-loop-k : goal.decreases-loop-k
-decreases-loop-k l = l.k
+invariant-loop-k l = (u : Judged) → JudgesOn (heads_from l.m l.k) l.limits l.r u → JudgesOn (heads_from l.m (head_count l.m)) l.limits l.initial.r u

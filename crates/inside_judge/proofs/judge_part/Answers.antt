@@ -30,15 +30,15 @@ pass-front-requires c = c.item_for-x.ensures.2
 
 pub note-r-requires : goal.note-r-requires
 note-r-requires c =
-    (c.item_for-x.ensures.2, c.requires.image_len_bound.2, c.requires.image_len_bound.3, c.pass-front.ensures)
+    (c.item_for-x.ensures.2, c.pass-front.ensures)
 
 pub judge_heads-s-requires : goal.judge_heads-s-requires
 judge_heads-s-requires c =
-    (fits c, c.requires.image_len_bound.2, c.requires.image_len_bound.3)
+    (fits c)
 
 pub judge_blocks-requires : goal.judge_blocks-requires
 judge_blocks-requires c =
-    (fits-2 c, c.requires.image_len_bound.2, c.requires.image_len_bound.3)
+    (fits-2 c)
 
 pub returns : goal.returns
 returns c =
@@ -46,7 +46,7 @@ returns c =
     let xs = a.image.now in
     let m = c.module_in-m.result in
     rw (← c.module_in-m.ensures, ← c.item_for-x.ensures.0)
-    (on_first c.item_for-x.result (items xs m) a.E a.c a.z a.judged c.note-r.result c.judge_blocks.result
+    (on_first c.item_for-x.result (items xs m) a.limits a.judged c.note-r.result c.judge_blocks.result
     c.note-r.ensures
-    (on_items xs m a.E a.c a.z c.note-r.result c.judge_heads-s.result c.judge_blocks.result c.judge_heads-s.ensures
+    (on_items xs m a.limits c.note-r.result c.judge_heads-s.result c.judge_blocks.result c.judge_heads-s.ensures
     c.judge_blocks.ensures))

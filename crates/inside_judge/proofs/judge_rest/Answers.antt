@@ -1,4 +1,3 @@
-use Prim.Native.Nat.{◌-◌}
 use mathlib.Core.Path.{◌≡◌}
 use native.Mathlib.Numerals.{add-one}
 use native.Mathlib.Omega.{arith}
@@ -9,29 +8,18 @@ use Rattle.inside_judge.proofs.judge_rest.Goals as goal
 
 pub loop-i-init : goal.loop-i-init
 unfolding entries_from
-loop-i-init c = let a = c.args in (omega arith, on_none a.E a.c a.z a.judged)
-
-pub entry_on-x-requires : goal.entry_on-x-requires
-entry_on-x-requires c =
-    (c.requires.0, c.requires.1, c.requires.2, omega (arith, c.requires.3))
-
-pub pass-front-requires : goal.pass-front-requires
-pass-front-requires c = c.entry_on-x.ensures.1
-
-pub note-r-requires : goal.note-r-requires
-note-r-requires c =
-    (c.entry_on-x.ensures.1, c.requires.4, c.requires.5, c.pass-front.ensures)
+loop-i-init c = let a = c.args in on_none a.limits a.judged
 
 pub loop-i-preserved : goal.loop-i-preserved
 loop-i-preserved c =
     let a = c.args in
     let xs = a.image.now in
     let i = c.loop-i.i in
-    let on = on_more (entries_from xs a.m a.q.page a.at i) a.E a.c a.z a.judged c.loop-i.r c.note-r.result
-    c.entry_on-x.result c.loop-i.invariant.1 c.note-r.ensures in
-    (omega arith, rw (add-one, entries_more xs a.m a.q.page a.at i, ← c.entry_on-x.ensures.0) on)
+    let on = on_more (entries_from xs a.m a.q.page a.at i) a.limits a.judged c.loop-i.r c.note-r.result
+    c.entry_on-x.result c.loop-i.invariant c.note-r.ensures in
+    rw (add-one, entries_more xs a.m a.q.page a.at i, ← c.entry_on-x.ensures.0) on
 
 pub returns : goal.returns
 returns c =
     let e : c.loop-i.i ≡ c.args.k = omega arith in
-    rw e at c.loop-i.invariant.1
+    rw e at c.loop-i.invariant

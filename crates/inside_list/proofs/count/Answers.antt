@@ -2,6 +2,8 @@ use Rattle.inside_list.specs.Counting.{counting_first, counting_room, counting_e
 use Rattle.words.specs.Le.{Bytes}
 use native.Mathlib.Omega.{arith}
 use Rattle.inside_list.proofs.count.Goals as goal
+use Rattle.inside_files.specs.PartKinds.{same_part, other_part}
+use Rattle.inside_files.specs.declared.PartKind.TheVariants.{End}
 
 bytes : (c : goal.After-module_in-m) → Bytes c.args.image.now
 unfolding Bytes
@@ -19,12 +21,12 @@ pub step-t-requires : goal.step-t-requires
 step-t-requires c =
     let w = c.requires in (w.within, omega (arith, w.within, w.small), c.loop-t.invariant.valid)
 
-pub returns-then-p-eq-NO_PART : goal.returns-then-p-eq-NO_PART
-returns-then-p-eq-NO_PART c =
+pub returns-then-eq : goal.returns-then-eq
+returns-then-eq c =
     let L = c.loop-t in
     let a = c.args in
     counting_end a.image.now a.v a.f c.requires L.n L.c L.invariant c.step-t.result c.step-t.ensures
-    c.if-p-eq-NO_PART.true
+    (same_part _ End c.eq.ensures c.if-eq.true)
 
 pub module_in-m-requires : goal.module_in-m-requires
 module_in-m-requires c =
@@ -43,11 +45,11 @@ count_module-n-requires c =
 
 pub loop-t-smaller : goal.loop-t-smaller
 loop-t-smaller c =
-    c.step-t.ensures.less c.if-p-eq-NO_PART.false
+    c.step-t.ensures.less (other_part _ End c.eq.ensures c.if-eq.false)
 
 pub loop-t-preserved : goal.loop-t-preserved
 loop-t-preserved c =
     let L = c.loop-t in
     let a = c.args in
     counting_next a.image.now a.v a.f c.requires L.n L.c L.invariant c.step-t.result c.step-t.ensures
-    c.if-p-eq-NO_PART.false c.count_module-n.result (rw c.module_in-m.ensures at c.count_module-n.ensures)
+    (other_part _ End c.eq.ensures c.if-eq.false) c.count_module-n.result (rw c.module_in-m.ensures at c.count_module-n.ensures)

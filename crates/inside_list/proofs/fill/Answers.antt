@@ -3,6 +3,8 @@ use Rattle.inside_list.specs.Filling.{filling_first, filling_end, module_room, f
 use Rattle.words.specs.Le.{Bytes}
 use native.Mathlib.Omega.{arith}
 use Rattle.inside_list.proofs.fill.Goals as goal
+use Rattle.inside_files.specs.PartKinds.{same_part, other_part}
+use Rattle.inside_files.specs.declared.PartKind.TheVariants.{End}
 
 bytes : (c : goal.After-fill_module-arg-1) → Bytes c.args.image.now
 unfolding Bytes
@@ -20,15 +22,15 @@ pub step-t-requires : goal.step-t-requires
 step-t-requires c =
     let w = c.requires.0 in (w.within, omega (arith, w.within, w.small), c.loop-t.invariant.valid)
 
-pub shape_of-places-then-p-eq-NO_PART : goal.shape_of-places-then-p-eq-NO_PART
-shape_of-places-then-p-eq-NO_PART c = c.loop-t.invariant.long
+pub shape_of-places-then-eq : goal.shape_of-places-then-eq
+shape_of-places-then-eq c = c.loop-t.invariant.long
 
-pub returns-then-p-eq-NO_PART : goal.returns-then-p-eq-NO_PART
-returns-then-p-eq-NO_PART c =
+pub returns-then-eq : goal.returns-then-eq
+returns-then-eq c =
     let L = c.loop-t in
     let a = c.args in
     filling_end a.image.now a.v a.f a.places.now a.k L.places L.file L.i L.c c.step-t.result L.invariant
-    c.step-t.ensures c.if-p-eq-NO_PART.true
+    c.step-t.ensures (same_part _ End c.eq.ensures c.if-eq.true)
 
 pub module_in-m-requires : goal.module_in-m-requires
 module_in-m-requires c =
@@ -44,16 +46,16 @@ fill_module-i-requires c =
     let a = c.args in
     rw (c.module_in-m.ensures, c.file_of-file.ensures) (
       step_fits a.image.now a.v L.c t (bytes c) w.within w.small on,
-      (step_known a.image.now a.v L.c t w.within w.small L.invariant.valid on c.if-p-eq-NO_PART.false).words,
+      (step_known a.image.now a.v L.c t w.within w.small L.invariant.valid on (other_part _ End c.eq.ensures c.if-eq.false)).words,
       of_small L.file t.part L.invariant.small on.small,
       omega (arith, on.small),
-      module_room a.image.now a.v a.f a.places.now a.k L.places L.file L.i L.c t L.invariant on c.if-p-eq-NO_PART.false
+      module_room a.image.now a.v a.f a.places.now a.k L.places L.file L.i L.c t L.invariant on (other_part _ End c.eq.ensures c.if-eq.false)
           c.requires.1,
     )
 
 pub loop-t-smaller : goal.loop-t-smaller
 loop-t-smaller c =
-    c.step-t.ensures.less c.if-p-eq-NO_PART.false
+    c.step-t.ensures.less (other_part _ End c.eq.ensures c.if-eq.false)
 
 pub loop-t-preserved : goal.loop-t-preserved
 loop-t-preserved c =
@@ -62,4 +64,4 @@ loop-t-preserved c =
     let e = rw (c.module_in-m.ensures, c.file_of-file.ensures) at c.fill_module-i.ensures in
     rw c.file_of-file.ensures
     (filling_next a.image.now a.v a.f a.places.now a.k L.places L.file L.i L.c c.step-t.result L.invariant
-    c.step-t.ensures c.if-p-eq-NO_PART.false c.fill_module-i.new.places c.fill_module-i.result e.0 e.1)
+    c.step-t.ensures (other_part _ End c.eq.ensures c.if-eq.false) c.fill_module-i.new.places c.fill_module-i.result e.0 e.1)

@@ -1,8 +1,6 @@
-use Rattle.inside_rows.specs.Rows.{row_at}
 use Rattle.facts.specs.FactLaws.{holds, fails_not, is_test}
-use Prim.Native.Nat.{◌-◌}
 use borrow.Author.Count.{below_more}
-use mathlib.Core.Path.{sym, ◌∙◌}
+use mathlib.Core.Path.{◌≡◌, sym, ◌∙◌}
 use native.Mathlib.Omega.{arith}
 use Rattle.inside_pages.proofs.first_row.Goals as goal
 
@@ -10,11 +8,13 @@ pub loop-i-init : goal.loop-i-init
 loop-i-init c = (omega arith, λ j h. absurd (omega arith))
 
 pub returns-then-row_reaches : goal.returns-then-row_reaches
-returns-then-row_reaches c =
-    record {
-      clear = c.loop-i.invariant.1;
-      here = λ h. rw c.row_at.ensures.0 at (holds _ (sym (is_test c.row_reaches.ensures) ∙ c.if-row_reaches.true));
-    }
+returns-then-row_reaches c = (
+  omega arith,
+  record {
+    clear = c.loop-i.invariant.1;
+    here = λ h. rw c.row_at.ensures.0 at (holds _ (sym (is_test c.row_reaches.ensures) ∙ c.if-row_reaches.true));
+  },
+)
 
 pub loop-i-preserved : goal.loop-i-preserved
 loop-i-preserved c = (
@@ -24,4 +24,6 @@ loop-i-preserved c = (
 )
 
 pub returns : goal.returns
-returns c = record { clear = c.loop-i.invariant.1; here = λ h. absurd (omega arith) }
+returns c =
+    let e : c.loop-i.i ≡ c.args.m.rows = omega arith in
+    record { clear = rw e at c.loop-i.invariant.1; here = λ h. absurd (omega arith) }

@@ -1,8 +1,6 @@
 use Rattle.std.specs.Prelude.{not}
 use Rattle.std.proofs.Common.{ap}
-use Rattle.inside_rows.specs.Rows.{data_fits}
 use Rattle.facts.specs.FactLaws.{granted, refuted}
-use Prim.Native.Nat.{◌-◌}
 use borrow.Author.Count.{below_more}
 use native.Mathlib.Omega.{arith}
 use Rattle.inside_rows.proofs.rows_fit.Goals as goal

@@ -23,8 +23,8 @@ are_apart-requires c =
     let a = c.args in
     let xs = a.image.now in
     let j = c.judge-j.ensures in (
-      ready xs a.v a.f a.t a.n a.c a.z c.judge-j.result.top c.lower.result c.around-start.result
-          c.upper-top.result c.requires.0 c.requires.1 c.lower.ensures c.around-start.ensures c.upper-top.ensures
+      ready xs a.v a.f a.t a.n a.c a.z c.judge-j.result.top c.min.result c.around-start.result
+          c.max-top.result c.requires.0 c.requires.1 c.min.ensures c.around-start.ensures c.max-top.ensures
           (granted j.whole c.if-not-j.false) (granted j.placed c.if-not-j-2.false) j.top,
       λ ok. (j.front.apart ok (patch_items xs a.t a.n) (bounds xs a.t a.n c.around-start.result c.around-start.ensures)).0,
     )

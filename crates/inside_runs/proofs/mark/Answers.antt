@@ -10,12 +10,12 @@ eight (inl e) n = absurd (n e)
 eight (inr e) n = e
 
 pub returns-then-w-eq4 : goal.returns-then-w-eq4
-returns-then-w-eq4 c = rw c.if-w-eq4.true c.paint4.ensures
+returns-then-w-eq4 c = rw c.if-w-eq4.true c.paint_word.ensures
 
-pub paint8-requires : goal.paint8-requires
-paint8-requires c =
+pub paint_word-requires-2 : goal.paint_word-requires-2
+paint_word-requires-2 c =
     omega (arith, c.requires.0, eight c.requires.1 c.if-w-eq4.false)
 
 pub returns : goal.returns
 returns c =
-    rw (eight c.requires.1 c.if-w-eq4.false) c.paint8.ensures
+    rw (eight c.requires.1 c.if-w-eq4.false) c.paint_word-2.ensures

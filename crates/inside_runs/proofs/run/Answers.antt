@@ -1,4 +1,4 @@
-use Prim.Native.Nat.{◌+◌, ◌-◌, ◌%◌, ◌≤◌}
+use Prim.Native.Nat.{◌+◌, ◌%◌, ◌≤◌}
 use native.Mathlib.Omega.{arith}
 use Rattle.inside_runs.specs.Runs.{InGap}
 use Rattle.inside_runs.specs.RunsLaws.{lain_none, lain_after}
@@ -15,9 +15,9 @@ loop-i-preserved c =
     let w = c.width-w.ensures.0 in
     let e = c.le16-e.ensures.is in
     let gap : InGap a.q a.low a.high c.le16-e.result = (
-      (omega (arith, w, c.if-w-eq0.false), c.if-o-q.false, omega (arith, w, c.lower-cap.ensures.1)),
+      (omega (arith, w, c.if-w-eq0.false), c.if-o-q.false, omega (arith, w, c.min-cap)),
       omega (arith, c.loop-i.invariant.1.up),
-      omega (arith, w, c.lower-cap.ensures.0),
+      omega (arith, w, c.min-cap),
     ) in
     let later : c.loop-i.end ≤ a.q.at + c.le16-e.result % 4096 = omega arith in
     let more = lain_after xs a.q a.low a.high a.at i c.loop-i.end c.loop-i.invariant.1 (rw e at gap) (rw e at later) in

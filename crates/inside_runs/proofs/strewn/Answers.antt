@@ -1,6 +1,6 @@
 use Rattle.std.specs.Prelude.{not}
 use Rattle.std.proofs.Common.{ap}
-use Prim.Native.Nat.{◌-◌}
+use Prim.Native.Nat.{◌≤◌, ◌%◌, ◌+◌}
 use native.Mathlib.Omega.{arith}
 use borrow.Author.Tests.{not-false}
 use Rattle.facts.specs.FactLaws.{granted}
@@ -47,8 +47,6 @@ loop-i-preserved c =
       omega (arith, w, c.if-high-from.false),
     ) in
     let p = c.mark.ensures.all (not-false _ (ap not c.if-not-mark.false)) in
-    let more = strewing_more xs a.q a.low a.high a.at i c.loop-i.end c.upper-end.result _ _ s (rw e at gap) (rw (w, e) at p) in
-    (omega arith, more c.upper-end.ensures.0 (rw (w, e) at c.upper-end.ensures.1) (λ h. c.upper-end.ensures.2 _ (s.lain.most h) c.if-high-from.false))
-
-pub returns : goal.returns
-returns c = (omega arith, c.loop-i.invariant.1.lain)
+    let own : a.q.at + c.le16-e.result % 4096 + c.width-w.result ≤ c.max-end.result = omega arith in
+    let more = strewing_more xs a.q a.low a.high a.at i c.loop-i.end _ _ _ s (rw e at gap) (rw (w, e) at p) in
+    (omega arith, more (omega arith) (rw (w, e) at own) (λ h. omega (arith, s.lain.most h)))

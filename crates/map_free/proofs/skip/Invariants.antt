@@ -1,10 +1,9 @@
-use Prim.Native.Nat.{◌-◌}
-use Rattle.map_ranges.specs.Table.{ranges_in}
+use Rattle.std.proofs.Common.{◌-◌}
 use Rattle.map_free.specs.Look.{Skipping, Swept}
 use Rattle.map_free.proofs.skip.Given as goal
 
-abbrev pub invariant-loop-s : goal.invariant-loop-s
-invariant-loop-s l = Skipping (ranges_in l.table l.n) l.start l.at × Swept l.table l.n l.at l.s
+abbrev pub invariant-loop-last : goal.invariant-loop-last
+invariant-loop-last l = Skipping l.rows l.start l.at × Swept l.rows l.at l.s
 
-abbrev pub decreases-loop-s : goal.decreases-loop-s
-decreases-loop-s l = 18446744073709551616 - l.at
+abbrev pub decreases-loop-last : goal.decreases-loop-last
+decreases-loop-last l = 18446744073709551616 - l.at

@@ -5,6 +5,3 @@ use Rattle.move_image.proofs.move_fixed.Given as goal
 
 abbrev pub invariant-loop-i : goal.invariant-loop-i
 invariant-loop-i l = (l.i ≤ l.r.n + 1) × (l.image ≡ moved_to l.initial.image (fixed_of l.initial.image l.r) (λ w. l.d) l.i) × (length l.image ≡ length l.initial.image)
-
-abbrev pub decreases-loop-i : goal.decreases-loop-i
-decreases-loop-i l = l.r.n + 1 - l.i

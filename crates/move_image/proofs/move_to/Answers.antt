@@ -12,5 +12,5 @@ returns c =
     let a = c.args in
     let xs = a.image.now in
     let r = a.r in
-    rw (c.modular_difference-four.ensures, c.wide_difference-eight.ensures) at c.move_words.ensures
+    rw (c.shift_between-d.ensures.0, c.shift_between-d.ensures.1) at c.move_words.ensures
     ∙ moved_by_width xs (words_of xs r) (difference r.base a.base) (widths xs r c.requires.0)

@@ -6,10 +6,10 @@ pub words-requires : goal.words-requires
 words-requires c =
     let a = c.args in
     rw c.le64-v.ensures.is
-    (movable_fixed a.image.now a.r c.requires a.four a.eight c.move_fixed.new.image c.move_fixed.ensures)
+    (movable_fixed a.image.now a.r c.requires a.d.four a.d.eight c.move_fixed.new.image c.move_fixed.ensures)
 
 pub returns : goal.returns
 returns c =
     let a = c.args in
     rw c.le64-v.ensures.is at c.words.ensures
-    ∙ moved_both a.image.now a.r c.requires a.four a.eight c.move_fixed.new.image c.move_fixed.ensures
+    ∙ moved_both a.image.now a.r c.requires a.d.four a.d.eight c.move_fixed.new.image c.move_fixed.ensures

@@ -1,8 +1,6 @@
 use Rattle.std.specs.Prelude.{not}
-use Rattle.owners.specs.Owners.{range_fits}
 use Rattle.facts.specs.FactLaws.{granted, refuted}
 use borrow.Author.Count.{below_more}
-use Prim.Native.Nat.{◌-◌}
 use mathlib.Core.Path.{refl, ap}
 use native.Mathlib.Numerals.{add-one}
 use native.Mathlib.Omega.{arith}

@@ -1,5 +1,4 @@
 use borrow.Author.Count.{below_more}
-use Prim.Native.Nat.{◌-◌}
 use native.Mathlib.Omega.{arith}
 use Rattle.owners_check.proofs.skip.Goals as goal
 
@@ -10,7 +9,7 @@ pub returns-then-k-w : goal.returns-then-k-w
 returns-then-k-w c =
     let L = c.loop-i in
     let e = c.range_at-w.ensures.value in
-    record { within = omega arith; passed = L.invariant.1; ahead = λ h. rw e at c.if-k-w.true }
+    (record { within = omega arith; passed = L.invariant.1; ahead = λ h. rw e at c.if-k-w.true }, omega arith)
 
 pub loop-i-preserved : goal.loop-i-preserved
 loop-i-preserved c =
@@ -21,4 +20,4 @@ loop-i-preserved c =
 pub returns : goal.returns
 returns c =
     let L = c.loop-i in
-    record { within = omega arith; passed = L.invariant.1; ahead = λ h. absurd (omega arith) }
+    record { within = omega arith; passed = λ j h. L.invariant.1 j (omega arith); ahead = λ h. absurd (omega arith) }

@@ -1,7 +1,7 @@
 use Rattle.std.specs.Prelude.{not}
 use Rattle.std.proofs.Common.{ap}
-use Rattle.piece_audit.specs.AuditLaws.{audit_unread, audit_unpaired, audit_illegal, audit_told}
-use Rattle.piece_audit.specs.Audit.{shipped_base}
+use Rattle.audit.specs.AuditLaws.{audit_unread, audit_unpaired, audit_illegal, audit_told}
+use Rattle.audit.specs.Audit.{shipped_base}
 use Rattle.reading_rules.specs.Guarantee.{shared}
 use Rattle.facts.specs.FactLaws.{granted, refuted}
 use lib.ListN.{length}

@@ -1,6 +1,6 @@
 use native.Mathlib.Omega.{arith}
 use mathlib.Core.Path.{sym, ◌∙◌}
-use Rattle.piece_audit.specs.AuditLaws.{all_few, pair_long, how_many_lem, tally_fits, tally_full}
+use Rattle.audit.specs.AuditLaws.{all_few, pair_long, how_many_lem, tally_fits, tally_full}
 use Rattle.piece_audit.proofs.tell.Goals as goal
 
 pub overflow_add-t : goal.overflow_add-t

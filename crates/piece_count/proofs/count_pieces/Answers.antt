@@ -21,7 +21,7 @@ loop-p-init c =
       refl,
       stands,
       (omega arith, omega arith),
-      rw zero-to (adds_clear (by a.vendor.now a.r a.four a.eight) a.shipped.now a.r 0 0 _ (omega arith) (λ i h l. absurd (omega arith))),
+      rw zero-to (adds_clear (by a.vendor.now a.r a.d.four a.d.eight) a.shipped.now a.r 0 0 _ (omega arith) (λ i h l. absurd (omega arith))),
     )
 
 pub next-p-requires : goal.next-p-requires
@@ -35,7 +35,7 @@ count_part-u-requires c =
     let L = c.loop-p in
     let (g, long, some) = c.requires in
     let on = c.next-p.ensures.onward in
-    let few = few_on (by a.vendor.now a.r a.four a.eight) a.shipped.now a.r 0 L.p.to _ L.t (omega arith) L.invariant.3 L.invariant.2 in record {
+    let few = few_on (by a.vendor.now a.r a.d.four a.d.eight) a.shipped.now a.r 0 L.p.to _ L.t (omega arith) L.invariant.3 L.invariant.2 in record {
       from_le_to = (
         on.low,
         omega arith,
@@ -52,7 +52,7 @@ count_part-t-requires c =
     let L = c.loop-p in
     let (g, long, some) = c.requires in
     let on = c.next-p.ensures.onward in
-    let few = few_on (by a.vendor.now a.r a.four a.eight) a.shipped.now a.r 0 L.p.to _ L.t (omega arith) L.invariant.3 L.invariant.2 in
+    let few = few_on (by a.vendor.now a.r a.d.four a.d.eight) a.shipped.now a.r 0 L.p.to _ L.t (omega arith) L.invariant.3 L.invariant.2 in
     let on-few = few_on (after 0 a.vendor.now) a.shipped.now a.r L.p.to c.next-p.result.from L.t _ on.low c.count_part-u.ensures few in
     record { from_le_to = (on.high, omega arith, on.size, omega (arith, on.stands.most, long), omega (arith, on.stands.most, g)); z_bound = (omega (arith, g), on-few) }
 
@@ -65,7 +65,7 @@ loop-p-preserved c =
     let L = c.loop-p in
     let q = c.next-p.result in
     let on = c.next-p.ensures.onward in
-    let ref = by a.vendor.now a.r a.four a.eight in
+    let ref = by a.vendor.now a.r a.d.four a.d.eight in
     let ys = a.shipped.now in
     let one = adds_same (after 0 a.vendor.now) ref ys a.r L.p.to q.from L.t _ (plain_part on) c.count_part-u.ensures in
     let two = adds_same _ ref ys a.r q.from q.to _ _ (held_part on) c.count_part-t.ensures in
@@ -84,4 +84,4 @@ returns c =
     let a = c.args in
     let L = c.loop-p in
     let e : L.p.to ≡ length a.shipped.now = omega (arith, L.invariant.1.most, c.requires.1) in
-    adds_all (by a.vendor.now a.r a.four a.eight) a.shipped.now a.r _ L.t refl (rw e at L.invariant.3)
+    adds_all (by a.vendor.now a.r a.d.four a.d.eight) a.shipped.now a.r _ L.t refl (rw e at L.invariant.3)

@@ -1,19 +1,14 @@
-use native.Mathlib.Omega.{arith}
-use mathlib.Core.Path.{◌∙◌}
-use Rattle.piece_stretch.specs.Stretch.{after}
-use Rattle.piece_stretch.specs.StretchLaws.{get_d_after, until_here, until_at}
+use Rattle.std.proofs.Common.{arith}
+use Rattle.piece_stretch.specs.StretchLaws.{until_part, same_part}
 use Rattle.piece_stretch.proofs.next.Goals as goal
 
-pub returns-then-from-to : goal.returns-then-from-to
-returns-then-from-to c =
+pub returns-in-Some : goal.returns-in-Some
+returns-in-Some c =
     let a = c.args in
-    rw c.if-from-to.true (until_here (after a.o a.a.now) a.b.now a.to)
+    let (u, less) = c.in-Some.ensures in
+    (until_part a.a.now a.b.now a.o a.from a.to c.in-Some.k (omega arith) (omega arith) u, omega arith)
 
-pub returns-then-b-from : goal.returns-then-b-from
-returns-then-b-from c =
+pub returns-in-None : goal.returns-in-None
+returns-in-None c =
     let a = c.args in
-    let here = get_d_after a.o a.a.now a.from (omega arith) in
-    until_at (after a.o a.a.now) a.b.now a.from a.to (omega arith) (λ e. c.if-b-from.true (e ∙ here))
-
-pub returns : goal.returns
-returns c = c.first_difference.ensures
+    same_part a.a.now a.b.now a.o a.from a.to (omega arith) (omega arith) c.in-None.ensures

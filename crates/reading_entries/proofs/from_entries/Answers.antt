@@ -1,81 +1,66 @@
+use Rattle.std.specs.Prelude.{List, ℕ, ◌+◌, ◌*◌, ◌<◌, ◌≡◌, false, ltb}
+use Rattle.std.proofs.lemmas.Bool.{lt-ltb, le-ltb}
+use Rattle.std.proofs.Common.{sym, arith}
 use Rattle.table.specs.PassesLaws.{place_placed}
-use Prim.Native.Nat.{ℕ, ◌+◌, ◌*◌, ◌<◌}
-use mathlib.Core.Path.{◌≡◌}
 use Rattle.table.specs.Passes.{place, unrefused, clear}
-use Rattle.facts.specs.FirstLaws.{first}
-use native.Mathlib.Omega.{arith}
+use Rattle.facts.specs.First.{first_fault}
+use Rattle.facts.specs.FirstLaws.{none_at_fault}
 use Rattle.facts.specs.Rules.{run}
-use borrow.Author.Tests.{lt-ltb, le-ltb}
 use Rattle.reading_rules.specs.Stages.{from_entries}
 use Rattle.reading_entries.proofs.from_entries.Goals as goal
 
--- the entries that are past rules 12, 22 and 13
-placed : (c : goal.Else-d-n) → (i : ℕ) → i < c.args.n
-    → let a = c.args in
-    (place a.image.now a.t i).number ≡ 0
-placed c i h =
+-- no rule is at fault at n
+past : (n : ℕ) → ltb n n ≡ false
+past n = le-ltb n n (omega arith)
+
+-- entries that pass 12, 22 and 13 have their places
+placed : (xs : List ℕ) (t n : ℕ) → n ≡ first_fault (unrefused 12 xs t) n → n ≡ first_fault (unrefused 22 xs t) n
+    → n ≡ first_fault (unrefused 13 xs t) n → (i : ℕ) → i < n → (place xs t i).number ≡ 0
+placed xs t n a b d i h =
+    (place_placed xs t i).numbers
+    (none_at_fault (unrefused 12 xs t) n (sym a) i h)
+    (none_at_fault (unrefused 22 xs t) n (sym b) i h)
+    (none_at_fault (unrefused 13 xs t) n (sym d) i h)
+
+pub returns-in-Some : goal.returns-in-Some
+unfolding run from_entries
+returns-in-Some c = rw (← c.in-Some.ensures.1, lt-ltb _ _ c.in-Some.ensures.0) c.refused.ensures
+
+pub returns-in-Some-first_refused : goal.returns-in-Some-first_refused
+unfolding run from_entries
+returns-in-Some-first_refused c =
+    let at = c.in-Some-first_refused.ensures in
+    rw (← c.in_default.ensures, past c.args.n, ← at.1, lt-ltb _ _ at.0) c.refused-in-Some-first_refused.ensures
+
+pub returns-in-Some-first_refused-2 : goal.returns-in-Some-first_refused-2
+unfolding run from_entries
+returns-in-Some-first_refused-2 c =
+    let at = c.in-Some-first_refused-2.ensures in
+    rw (← c.in_default.ensures, ← c.in_default-first_refused.ensures, past c.args.n, ← at.1, lt-ltb _ _ at.0) c.refused-in-Some-first_refused-2.ensures
+
+pub first_overlap-requires : goal.first_overlap-requires
+first_overlap-requires c =
     let a = c.args in
-    let xs = a.image.now in
-    (place_placed xs a.t i).numbers
-    ((first (unrefused 12 xs a.t) a.n).clear i (omega (arith, c.first_refused-a.ensures, c.if-a-n.false)))
-    ((first (unrefused 22 xs a.t) a.n).clear i (omega (arith, c.first_refused-b.ensures, c.if-b-n.false)))
-    ((first (unrefused 13 xs a.t) a.n).clear i (omega (arith, c.first_refused-d.ensures, c.if-d-n.false)))
+    let xs = a.image.now in (
+      c.requires.1,
+      c.requires.2,
+      placed xs a.t a.n c.in_default.ensures c.in_default-first_refused.ensures c.in_default-first_refused-2.ensures,
+      c.requires.4.small,
+      c.requires.5,
+    )
 
-placed-at-2 : (c : goal.Else-o-n) → (i : ℕ) → i < c.args.n
-    → let a = c.args in
-    (place a.image.now a.t i).number ≡ 0
-placed-at-2 c i h =
-    let a = c.args in
-    let xs = a.image.now in
-    (place_placed xs a.t i).numbers
-    ((first (unrefused 12 xs a.t) a.n).clear i (omega (arith, c.first_refused-a.ensures, c.if-a-n.false)))
-    ((first (unrefused 22 xs a.t) a.n).clear i (omega (arith, c.first_refused-b.ensures, c.if-b-n.false)))
-    ((first (unrefused 13 xs a.t) a.n).clear i (omega (arith, c.first_refused-d.ensures, c.if-d-n.false)))
-
-pub returns-then-a-n : goal.returns-then-a-n
+pub returns-in-Some-first_overlap : goal.returns-in-Some-first_overlap
 unfolding run from_entries
-returns-then-a-n c =
-    rw (← c.first_refused-a.ensures, lt-ltb _ _ c.if-a-n.true) c.refused.ensures
-
-pub returns-then-b-n : goal.returns-then-b-n
-unfolding run from_entries
-returns-then-b-n c =
+returns-in-Some-first_overlap c =
+    let at = c.in-Some-first_overlap.ensures in
     rw (
-      ← c.first_refused-a.ensures,
-      le-ltb _ _ c.if-a-n.false,
-      ← c.first_refused-b.ensures,
-      lt-ltb _ _ c.if-b-n.true,
-    ) c.refused-then-b-n.ensures
-
-pub returns-then-d-n : goal.returns-then-d-n
-unfolding run from_entries
-returns-then-d-n c =
-    rw (
-      ← c.first_refused-a.ensures,
-      le-ltb _ _ c.if-a-n.false,
-      ← c.first_refused-b.ensures,
-      le-ltb _ _ c.if-b-n.false,
-      ← c.first_refused-d.ensures,
-      lt-ltb _ _ c.if-d-n.true,
-    ) c.refused-then-d-n.ensures
-
-pub first_overlap-o-requires : goal.first_overlap-o-requires
-first_overlap-o-requires c =
-    (c.requires.1, c.requires.2, placed c, c.requires.4.small, c.requires.5)
-
-pub returns-then-o-n : goal.returns-then-o-n
-unfolding run from_entries
-returns-then-o-n c =
-    rw (
-      ← c.first_refused-a.ensures,
-      le-ltb _ _ c.if-a-n.false,
-      ← c.first_refused-b.ensures,
-      le-ltb _ _ c.if-b-n.false,
-      ← c.first_refused-d.ensures,
-      le-ltb _ _ c.if-d-n.false,
-      ← c.first_overlap-o.ensures,
-      lt-ltb _ _ c.if-o-n.true,
-    ) c.refused-then-o-n.ensures
+      ← c.in_default.ensures,
+      ← c.in_default-first_refused.ensures,
+      ← c.in_default-first_refused-2.ensures,
+      past c.args.n,
+      ← at.1,
+      lt-ltb _ _ at.0,
+    ) c.refused-in-Some-first_overlap.ensures
 
 pub from_modules-requires : goal.from_modules-requires
 from_modules-requires c =
@@ -87,9 +72,8 @@ from_modules-requires c =
       c.requires.4,
       record {
         within = c.requires.1;
-        good = placed-at-2 c;
-        clears = λ i h. (first (clear xs a.t (a.t + 4 * a.n) a.c a.z) a.n).clear i
-            (omega (arith, c.first_overlap-o.ensures, c.if-o-n.false));
+        good = placed xs a.t a.n c.in_default.ensures c.in_default-first_refused.ensures c.in_default-first_refused-2.ensures;
+        clears = none_at_fault (clear xs a.t (a.t + 4 * a.n) a.c a.z) a.n (sym c.in_default-first_overlap.ensures);
       },
     )
 
@@ -97,12 +81,9 @@ pub returns : goal.returns
 unfolding run from_entries
 returns c =
     rw (
-      ← c.first_refused-a.ensures,
-      le-ltb _ _ c.if-a-n.false,
-      ← c.first_refused-b.ensures,
-      le-ltb _ _ c.if-b-n.false,
-      ← c.first_refused-d.ensures,
-      le-ltb _ _ c.if-d-n.false,
-      ← c.first_overlap-o.ensures,
-      le-ltb _ _ c.if-o-n.false,
+      ← c.in_default.ensures,
+      ← c.in_default-first_refused.ensures,
+      ← c.in_default-first_refused-2.ensures,
+      ← c.in_default-first_overlap.ensures,
+      past c.args.n,
     ) c.from_modules.ensures

@@ -17,7 +17,7 @@ returns-then-not-fields_fit c =
 
 pub fields_owned-requires : goal.fields_owned-requires
 fields_owned-requires c =
-    (c.requires.1, (c.args.r.z, c.requires.2))
+    (c.args.r.z, c.requires.1)
 
 pub returns-then-not-fields_owned : goal.returns-then-not-fields_owned
 unfolding run name_rules

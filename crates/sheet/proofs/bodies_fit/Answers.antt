@@ -1,9 +1,8 @@
 use Rattle.std.specs.Prelude.{not}
-use Rattle.sheet.specs.Sheet.{count, size, offset, body_at, entry_fits}
+use Rattle.sheet.specs.Sheet.{count, size, offset, body_at}
 use Rattle.sheet.specs.declared.Entry.{Entry}
 use Rattle.facts.specs.FactLaws.{granted, refuted}
 use borrow.Author.Count.{below_more}
-use Prim.Native.Nat.{◌-◌}
 use mathlib.Core.Path.{◌≡◌, refl, ap, sym, ◌∙◌}
 use native.Mathlib.Numerals.{add-one}
 use native.Mathlib.Omega.{arith}

@@ -1,22 +1,14 @@
-use Rattle.std.specs.Prelude.{not}
-use Rattle.std.proofs.Common.{ap}
+use Rattle.sheet.specs.Sheet.{sheet_fits}
 use Rattle.sheet.specs.ReadSheet.{sheet_reading}
 use Rattle.facts.specs.Rules.{run}
-use Rattle.facts.specs.FactLaws.{yes, no, granted}
-use native.Mathlib.Omega.{arith}
+use Rattle.facts.specs.FactLaws.{passes, fails}
 use Rattle.sheet.proofs.read_sheet.Goals as goal
 
-pub returns-then-not-sheet_fits : goal.returns-then-not-sheet_fits
+pub returns-in-None : goal.returns-in-None
 unfolding sheet_reading run
-returns-then-not-sheet_fits c = rw (no c.sheet_fits.ensures (ap not c.if-not-sheet_fits.true))
+returns-in-None c = rw (fails (sheet_fits c.args.sheet.now) c.in-None.ensures)
 
-pub le16-requires : goal.le16-requires
-le16-requires c = let fits = granted c.sheet_fits.ensures (ap not c.if-not-sheet_fits.false) in omega (arith, fits.0)
-
-pub identity_of-requires : goal.identity_of-requires
-identity_of-requires c = let fits = granted c.sheet_fits.ensures (ap not c.if-not-sheet_fits.false) in omega (arith, fits.0)
-
-pub returns : goal.returns
+pub returns-in-Some : goal.returns-in-Some
 unfolding sheet_reading run
-returns c =
-    rw (yes c.sheet_fits.ensures (ap not c.if-not-sheet_fits.false), ← c.le16.ensures.is, ← c.identity_of.ensures)
+returns-in-Some c =
+    rw (passes (sheet_fits c.args.sheet.now) c.in-Some.ensures.1, ← c.in-Some.ensures.0, ← c.count.ensures.value.0, ← c.identity.ensures)

@@ -5,6 +5,7 @@ use Rattle.facts.specs.Fact.{◌≤?◌}
 use Rattle.facts.specs.FactLaws.{passes, fails, yes, no}
 use Prim.Native.Nat.{◌-◌, ◌%◌, ◌^◌}
 use borrow.Author.Tests.{eq-eqb, ne_eqb}
+use mathlib.Core.Logic.{inl, inr}
 use native.Mathlib.Omega.{arith}
 use Rattle.table.proofs.point.Goals as goal
 
@@ -17,25 +18,17 @@ unfolding place_of
 returns-then-not-reserved_fits c =
     rw (yes c.type_fits.ensures (ap not c.if-not-type_fits.false), no c.reserved_fits.ensures (ap not c.if-not-reserved_fits.true)) c.refused_place-then-not-reserved_fits.ensures
 
-pub returns-then-entry-eq0 : goal.returns-then-entry-eq0
+pub returns-in_default : goal.returns-in_default
 unfolding place_of
-returns-then-entry-eq0 c =
-    rw (
-      yes c.type_fits.ensures (ap not c.if-not-type_fits.false),
-      yes c.reserved_fits.ensures (ap not c.if-not-reserved_fits.false),
-      eq-eqb _ _ c.if-entry-eq0.true,
-    ) c.fit.ensures
-
-pub returns-then-size-low : goal.returns-then-size-low
-unfolding place_of
-returns-then-size-low c =
+returns-in_default c =
     let a = c.args in
+    let out = c.in_default.ensures in
     rw (
       yes c.type_fits.ensures (ap not c.if-not-type_fits.false),
       yes c.reserved_fits.ensures (ap not c.if-not-reserved_fits.false),
-      ne_eqb _ _ c.if-entry-eq0.false,
+      ne_eqb _ _ out.0,
       fails (2 ^ 24 - a.entry % 2 ^ 24 ≤? a.size) (λ h. omega arith),
-    ) c.refused_place-then-size-low.ensures
+    ) c.refused_place-in_default.ensures
 
 pub returns : goal.returns
 unfolding place_of
@@ -44,6 +37,7 @@ returns c =
     rw (
       yes c.type_fits.ensures (ap not c.if-not-type_fits.false),
       yes c.reserved_fits.ensures (ap not c.if-not-reserved_fits.false),
-      ne_eqb _ _ c.if-entry-eq0.false,
-      passes (2 ^ 24 - a.entry % 2 ^ 24 ≤? a.size) (omega arith),
-    ) c.fit-2.ensures
+    ) (elim c.in-Some.ensures [
+      | inl up ↦ rw (eq-eqb _ _ up.0, ← up.1) c.fit.ensures
+      | inr back ↦ rw (ne_eqb _ _ back.0, passes (2 ^ 24 - a.entry % 2 ^ 24 ≤? a.size) back.1, ← back.2) c.fit.ensures
+    ])

@@ -3,12 +3,10 @@ use Rattle.std.proofs.Common.{ap}
 use mathlib.Core.List.{List}
 use lib.ListN.{length}
 use Rattle.table.specs.PassesLaws.{place_placed}
-use Rattle.table.specs.Passes.{place, outside, clear}
-use Rattle.facts.specs.Fact.{Holds}
+use Rattle.table.specs.Passes.{place}
 use Rattle.facts.specs.FactLaws.{granted, refuted}
-use Rattle.table.specs.declared.Place.{Place}
 use Rattle.facts.specs.FirstLaws.{is_first}
-use Prim.Native.Nat.{ℕ, ◌+◌, ◌-◌, ◌*◌, ◌≤◌}
+use Prim.Native.Nat.{ℕ, ◌≤◌}
 use borrow.Author.Count.{below_more}
 use mathlib.Core.Path.{◌≡◌}
 use native.Mathlib.Omega.{arith}
@@ -17,22 +15,17 @@ use mathlib.Core.Logic.{inl, inr}
 use Rattle.table_scans.proofs.first_overlap.Goals as goal
 
 -- an entry's place lies in the image
-small : (w : Place) (xs : List ℕ) (t i : ℕ) → w ≡ place xs t i → w.at ≤ length xs
-small w xs t i e = rw e (place_placed xs t i).within
-
 near : (xs : List ℕ) (t i p : ℕ) → p ≡ (place xs t i).at → p ≤ length xs
 near xs t i p e = rw e (place_placed xs t i).within
 
--- what ends at or below a place at or above which the entry's word starts ends before that word
-above : (xs : List ℕ) (t i : ℕ) (w : Place) {e high : ℕ} → w ≡ place xs t i → e ≤ high → high ≤ w.at → e ≤ (place xs t i).at
-above xs t i w is h k = rw is at (le_trans h k)
+pub loop-i-init : goal.loop-i-init
+loop-i-init c = ((λ k h. absurd (omega arith)), λ k h. absurd (omega arith))
 
-pub entries-init : goal.entries-init
-entries-init c = (omega arith, (λ k h. absurd (omega arith)), λ k h. absurd (omega arith))
+pub spot_at-a-requires : goal.spot_at-a-requires
+spot_at-a-requires c = (omega (arith, c.requires.0), c.requires.2 c.loop-i.i (omega arith))
 
 pub is_outside-requires : goal.is_outside-requires
-is_outside-requires c =
-    omega (arith, small c.point_at-a.result c.args.image.now c.args.t c.entries.i c.point_at-a.ensures)
+is_outside-requires c = omega (arith, near c.args.image.now c.args.t c.loop-i.i c.spot_at-a.result c.spot_at-a.ensures)
 
 pub loop-j-init : goal.loop-j-init
 loop-j-init c = (
@@ -40,11 +33,8 @@ loop-j-init c = (
   λ k h.
       let l = c.skipped-j.ensures.0 in
       elim (c.skipped-j.ensures.1 (omega arith)) [
-        | inl sure ↦ c.surely_apart-sure.ensures sure c.entries.i (omega arith) k (omega arith)
-        | inr up ↦
-            inr
-            (above c.args.image.now c.args.t c.entries.i c.point_at-a.result
-            c.point_at-a.ensures (c.entries.invariant.2 k (omega arith)) up)
+        | inl sure ↦ c.surely_apart-sure.ensures sure c.loop-i.i (omega arith) k (omega arith)
+        | inr up ↦ inr (rw c.spot_at-a.ensures at (le_trans (c.loop-i.invariant.1 k (omega arith)) up))
       ],
 )
 
@@ -57,51 +47,52 @@ is_apart-requires c =
     let xs = c.args.image.now in
     omega (
       arith,
-      c.before.before.before.before.before.before.before.before.before.before.before,
+      c.requires.3,
       near xs c.args.t c.loop-j.j c.spot_at.result c.spot_at.ensures,
-      small c.point_at-a.result xs c.args.t c.entries.i c.point_at-a.ensures,
+      near xs c.args.t c.loop-i.i c.spot_at-a.result c.spot_at-a.ensures,
     )
 
 pub loop-j-preserved : goal.loop-j-preserved
 loop-j-preserved c = (
   omega arith,
   below_more _ _ c.loop-j.invariant.1
-      (rw (c.point_at-a.ensures, c.spot_at.ensures) at
-      (granted c.is_apart.ensures (ap not c.if-not-is_apart.false))),
+      (rw (c.spot_at-a.ensures, c.spot_at.ensures) at (granted c.is_apart.ensures (ap not c.if-not-is_apart.false))),
 )
 
-pub end_with-high-requires : goal.end_with-high-requires
-end_with-high-requires c =
-    let Near-by = small c.point_at-a.result c.args.image.now c.args.t c.entries.i in
-    omega (arith, c.before.before.before.before.before.before.before.before.before.before, Near-by c.point_at-a.ensures)
+pub overflow_add-a : goal.overflow_add-a
+overflow_add-a c =
+    omega (arith, c.requires.3, near c.args.image.now c.args.t c.loop-i.i c.spot_at-a.result c.spot_at-a.ensures)
 
-pub entries-preserved : goal.entries-preserved
-entries-preserved c = (
-  omega arith,
-  below_more _ _ c.entries.invariant.1 (rw c.point_at-a.ensures at (granted c.is_outside.ensures (ap not c.if-not-is_outside.false)), λ j h. c.loop-j.invariant.1 j (omega arith)),
-  below_more _ _ (λ k h. le_trans (c.entries.invariant.2 k h) c.end_with-high.ensures.0)
-      (rw c.point_at-a.ensures at c.end_with-high.ensures.1),
-)
+pub loop-i-preserved : goal.loop-i-preserved
+loop-i-preserved c =
+    let a = c.spot_at-a.ensures in (
+      below_more _ _ c.loop-i.invariant.0
+          (rw a at (granted c.is_outside.ensures (ap not c.if-not-is_outside.false)), λ j h. c.loop-j.invariant.1 j (omega arith)),
+      below_more _ _ (λ k h. omega (arith, c.loop-i.invariant.1 k h)) (omega (arith, a)),
+    )
 
-pub returns-then-i-n : goal.returns-then-i-n
-returns-then-i-n c =
-    let e : c.entries.i ≡ c.args.n = omega arith in
-    is_first (record { within = omega arith; clear = c.entries.invariant.1; fault = λ h. absurd (omega arith) })
+pub returns : goal.returns
+returns c =
+    is_first (record { within = omega arith; clear = λ i h. c.loop-i.invariant.0 i (omega arith); fault = λ h. absurd (omega arith) })
 
 pub returns-then-not-is_outside : goal.returns-then-not-is_outside
-returns-then-not-is_outside c =
-    is_first (record {
-      within = omega arith;
-      clear = c.entries.invariant.1;
-      fault = λ h p. refuted c.is_outside.ensures (ap not c.if-not-is_outside.true) (rw c.point_at-a.ensures p.0);
-    })
+returns-then-not-is_outside c = (
+  omega arith,
+  is_first (record {
+    within = omega arith;
+    clear = c.loop-i.invariant.0;
+    fault = λ h p. refuted c.is_outside.ensures (ap not c.if-not-is_outside.true) (rw c.spot_at-a.ensures p.0);
+  }),
+)
 
 pub returns-then-not-is_apart : goal.returns-then-not-is_apart
-returns-then-not-is_apart c =
-    is_first (record {
-      within = omega arith;
-      clear = c.entries.invariant.1;
-      fault = λ h p.
-          refuted c.is_apart.ensures (ap not c.if-not-is_apart.true)
-          (rw (c.point_at-a.ensures, c.spot_at.ensures) (p.1 c.loop-j.j (omega arith)));
-    })
+returns-then-not-is_apart c = (
+  omega arith,
+  is_first (record {
+    within = omega arith;
+    clear = c.loop-i.invariant.0;
+    fault = λ h p.
+        refuted c.is_apart.ensures (ap not c.if-not-is_apart.true)
+        (rw (c.spot_at-a.ensures, c.spot_at.ensures) (p.1 c.loop-j.j (omega arith)));
+  }),
+)

@@ -1,5 +1,5 @@
 use Rattle.std.specs.Prelude.{◌/◌, ◌%◌, [], ◌∷◌, length}
-use Rattle.std.proofs.Common.{ap, ◌∙◌, arith}
+use Rattle.std.proofs.Common.{ap, arith}
 use Rattle.text_lines.specs.Text.{digit, decimal}
 use Rattle.text_lines.specs.TextLaws.{decimal_last, decimal_more, length_decimal}
 use Rattle.text_lines.specs.LineLaws.{wrote_then}

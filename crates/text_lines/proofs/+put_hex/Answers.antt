@@ -1,5 +1,5 @@
 use Rattle.std.specs.Prelude.{◌-◌, ◌/◌, ◌%◌, [], ◌∷◌}
-use Rattle.std.proofs.Common.{◌∙◌, arith}
+use Rattle.std.proofs.Common.{arith}
 use Rattle.text_lines.specs.Text.{hex_digit, hex_digits}
 use Rattle.text_lines.specs.TextLaws.{hex_none, hex_more, length_hex}
 use Rattle.text_lines.specs.LineLaws.{wrote_none, wrote_then}

@@ -1,5 +1,6 @@
 use Prim.Native.Nat.{◌+◌, ◌≤◌}
-use mathlib.Core.Path.{◌≡◌}
+use mathlib.Core.Path.{◌≡◌, sym}
+use lib.Seq.{length-take-le}
 use native.Mathlib.Omega.{arith}
 use Rattle.audit.specs.Audit.{auditing}
 use Rattle.text_output.specs.Taken.{no_more, text_told, text_refused}
@@ -36,14 +37,17 @@ returns-then-a-ne0 c =
 pub overflow_add-a : goal.overflow_add-a
 overflow_add-a c = omega (arith, few c)
 
-pub put_told-requires : goal.put_told-requires
-put_told-requires c = omega (arith, few c, c.audit-a.auto)
-
 pub returns : goal.returns
 returns c =
     let a = c.args in
     let e = answered-at-2 c in record {
       wrote = rw (text_told a.vendor.now a.shipped.now (read-at-2 c) a.places.now c.requires.0, ← e, ← c.audit-a.ensures.1)
           c.put_told.ensures.wrote;
-      upper_bound = omega (arith, c.put_told.ensures.upper_bound, few-at-2 c);
+      upper_bound = omega (arith, c.put_told.ensures.upper_bound, length-take-le (c.audit-a.result.settings + c.audit-a.result.strays) c.audit-a.new.places (omega (arith, few-at-2 c, c.audit-a.auto)), few-at-2 c);
     }
+
+pub slice_bounds-put_told-end : goal.slice_bounds-put_told-end
+slice_bounds-put_told-end c = omega (arith, few c, c.audit-a.auto)
+
+pub slice_bounds-put_told-end-2 : goal.slice_bounds-put_told-end-2
+slice_bounds-put_told-end-2 c = sym (length-take-le _ _ (omega (arith, few c, c.audit-a.auto)))

@@ -1,6 +1,6 @@
 use Rattle.volume.specs.SumLaws.{sum_turns, halves_add, halves_fit, by_turns}
 use native.Mathlib.Numerals.{add-one}
-use Prim.Native.Nat.{◌-◌, ◌/◌}
+use Prim.Native.Nat.{◌/◌}
 use native.Mathlib.Nat.{le_antisymm}
 use mathlib.Core.Path.{◌≡◌}
 use native.Mathlib.Omega.{arith}

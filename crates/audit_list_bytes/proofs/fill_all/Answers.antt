@@ -1,6 +1,0 @@
-use borrow.Author.Rules.{rules}
-use Rattle.audit_list_bytes.proofs.fill_all.Goals as goal
-
-pub fill_walk-requires : goal.fill_walk-requires
-fill_walk-requires c =
-    (c.requires.0, c.requires.1, c.requires.2, search rules, c.rank_words.ensures)

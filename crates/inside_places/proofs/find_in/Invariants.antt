@@ -1,0 +1,8 @@
+use Rattle.inside_rows.specs.Rows.{row_at}
+use Rattle.inside_places.specs.Places.{covers}
+use Rattle.facts.specs.Fact.{Holds}
+use Prim.Native.Nat.{ℕ, ◌≤◌, ◌<◌}
+use Rattle.inside_places.proofs.find_in.Given as goal
+
+abbrev pub invariant-loop-i : goal.invariant-loop-i
+invariant-loop-i l = (l.i ≤ l.m.rows) × ((j : ℕ) → j < l.i → Holds (covers (row_at l.image l.m.table j) l.rva l.k) → ⊥)

@@ -1,5 +1,0 @@
-use native.Mathlib.Omega.{arith}
-use Rattle.piece_audit.proofs.lists.Goals as goal
-
-pub returns : goal.returns
-returns c = record { says = λ h. h.1 (omega arith, omega arith) }
