@@ -4,7 +4,6 @@ use Rattle.std.specs.Prelude.{ℕ, suc, ◌+◌, ◌*◌, ◌≤◌, ◌<◌, Li
 use Rattle.std.proofs.Common.{arith, le-leb, drop-cons, ltb-true}
 use Rattle.std.proofs.lemmas.Bool.{lt-leb}
 use Rattle.std.proofs.Math.Seq.{drop-length}
-use Rattle.std.specs.Int.{w64, cast_unsigned}
 use Rattle.std.specs.Int.Signed.{lt_z}
 use Rattle.facts.specs.Fact.{test}
 use Rattle.words.specs.Put.{put, put_all}
@@ -29,12 +28,6 @@ pub twos_above : (z : ℤ) → lt_z z (pos 0) ≡ false → twos z ≡ nat_abs z
 unfolding twos
 twos_above (pos n) e = refl
 twos_above (negsuc n) e = let z : ◌≡◌ {A = ℕ} 0 1 = cc in absurd (omega arith)
-
--- the machine's own cast of a signed number
-pub cast_is : (z : ℤ) → cast_unsigned w64 z ≡ twos z
-unfolding twos
-cast_is (pos n) = refl
-cast_is (negsuc n) = refl
 
 -- ---- fields one after the other
 

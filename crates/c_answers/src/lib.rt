@@ -3,7 +3,7 @@
 
 ghost use Rattle.std.specs.Prelude.{◌≡◌, ◌*◌, ◌≤◌, length};
 ghost use Rattle.words.specs.Put.{put_all};
-ghost use Rattle.c_answers.specs.Answers.{read_fields, move_fields, sheet_fields, setting_fields, audit_fields, list_fields};
+ghost use Rattle.c_answers.specs.Answers.{twos, read_fields, move_fields, sheet_fields, setting_fields, audit_fields, list_fields};
 ghost use Rattle.c_answers.specs.Steps.{kind_fields};
 
 use answers::{Audited, Found, Listed, Moved, Reading};
@@ -42,11 +42,21 @@ pub fn read_fields(r: Reading) -> [u64; 12]
     ]
 }
 
-#[tactic(auto, using(crate::specs::AnswerLaws::cast_is))]
+// A signed number in two's complement, by how far it is from 0: what `move_answer` promises of a distance is what C is told.
+fn twos_complement(x: i64) -> u64
+    ensures { result ≡ twos x }
+{
+    let m = move_answer::magnitude(x);
+    if x < 0 {
+        return 18446744073709551615 - (m - 1);
+    }
+    m
+}
+
 pub fn move_fields(r: Moved) -> [u64; 3]
     ensures { result ≡ move_fields r }
 {
-    [r.number as u64, r.index as u64, r.distance.cast_unsigned()]
+    [r.number as u64, r.index as u64, twos_complement(r.distance)]
 }
 
 pub fn sheet_fields(r: SheetReading) -> [u64; 5]

@@ -2,7 +2,9 @@
 #![tactic(auto)]
 
 ghost use Rattle.std.specs.Prelude.{◌≡◌, ◌+◌, ◌*◌, ◌≤◌};
+ghost use Rattle.facts.specs.Fact.{Tells};
 ghost use Rattle.fold.specs.Fold.{refused_fold, Folds};
+ghost use Rattle.fold_room.specs.RoomBy.{room_by};
 
 use fold_pile::Pile;
 use fold_tally::Tally;
@@ -40,6 +42,13 @@ impl Folded {
     }
 }
 
+// Rule 29, for a buffer of this length.
+fn has_room(t: Tally, room: usize) -> bool
+    ensures { Tells result (room_by t room) }
+{
+    fold_room::has_room(t, room)
+}
+
 // Folds the sheets of a pile, each after its 32-bit length, into one sheet at the start of `out`.
 pub fn fold(pile: &[u8], out: &mut [u8]) -> Folded
     ensures { Folds pile.now out.old result out.new }
@@ -50,7 +59,7 @@ pub fn fold(pile: &[u8], out: &mut [u8]) -> Folded
     };
     let mut cells = [0u16; 4096];
     let t = fold_tally::count(&whole, &mut cells);
-    if !fold_room::has_room(t, out.len()) {
+    if !has_room(t, out.len()) {
         return Folded::refused(29);
     }
     fold_write::write_sheet(out, t.runs, &whole, &mut cells);

@@ -63,3 +63,11 @@ sheet_number first s = number_of (rule 15 (sheet_fits s) (rule 16 (same_identity
 abbrev pub Piled : List ℕ → ℕ → List (List ℕ) → Type 0
 Piled p at [] = at ≡ length p
 Piled p at (s ∷ ss) = (s ≡ sheet_at p at) × Holds (lies p at) × Holds (sheet_fits s) × Piled p (after p at) ss
+
+-- the same as a check: 15 alone, for each of the sheets ss from `at` on
+unfoldable pub sheets_fit : List ℕ → ℕ → List (List ℕ) → Fact
+sheets_fit p at [] = at ≡? length p
+sheets_fit p at (s ∷ ss) = lies p at and (sheet_fits s and sheets_fit p (after p at) ss)
+
+abbrev pub pile_fits : List ℕ → Fact
+pile_fits p = sheets_fit p 0 (sheets p)

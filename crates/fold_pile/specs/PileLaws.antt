@@ -16,7 +16,7 @@ use Rattle.words.specs.Le.{le}
 use Rattle.answers.specs.declared.Identity.{Identity}
 use Rattle.sheet.specs.Sheet.{sheet_identity, sheet_fits, same_identity}
 use Rattle.fold_pile.specs.Pile.{lies, sheet_at, after, sheets_from, sheets, sheet_rules, pile_identity, pile_rules, number_of}
-use Rattle.fold_pile.specs.Pile.{sheets_number, pile_number, sheet_number, Piled}
+use Rattle.fold_pile.specs.Pile.{sheets_number, pile_number, sheet_number, Piled, sheets_fit, pile_fits}
 use Rattle.fold_pile.specs.SheetsLaws.{from_some, from_none}
 
 -- ---- one sheet after the other
@@ -218,6 +218,38 @@ module _ (p : List ℕ) (ok : pile_number p ≡ 0) where
       go : (ss : List (List ℕ)) → Piled p 0 ss → Holds (lies p 0) × Holds (sheet_fits (sheet_at p 0))
       go [] d = absurd (omega (arith, some_byte))
       go (s ∷ ss) d = (d.1, rw d.0 at d.2)
+
+-- ---- 15 alone
+
+sheets_piled : (p : List ℕ) (n at : ℕ) → Holds (sheets_fit p at (sheets_from p at n)) → Piled p at (sheets_from p at n)
+unfolding sheets_fit sheets_from
+sheets_piled p zero at h = h
+sheets_piled p (suc n) at h = go (test (lies p at)) (sheets_from p (after p at) n) (sheets_piled p n (after p at)) h
+  where
+    go : (b : Bool) (ss : List (List ℕ)) → (Holds (sheets_fit p (after p at) ss) → Piled p (after p at) ss)
+        → Holds (sheets_fit p at (cond b (sheet_at p at ∷ ss) []))
+        → Piled p at (cond b (sheet_at p at ∷ ss) [])
+    go true ss on k = (refl, k.0, k.1.0, on k.1.1)
+    go false ss on k = k
+
+sheets_fitting : (p : List ℕ) (at : ℕ) (ss : List (List ℕ)) → Piled p at ss → Holds (sheets_fit p at ss)
+unfolding sheets_fit
+sheets_fitting p at [] d = d
+sheets_fitting p at (s ∷ ss) d = (d.1, (d.2, sheets_fitting p (after p at) ss d.3))
+
+-- what `Pile` keeps, and what is known by it
+pub pile_fitting : (p : List ℕ) → Piled p 0 (sheets p) → test (pile_fits p) ≡ true
+pile_fitting p d = passes (pile_fits p) (sheets_fitting p 0 (sheets p) d)
+
+pub piled_of : (p : List ℕ) → test (pile_fits p) ≡ true → Piled p 0 (sheets p)
+unfolding sheets
+piled_of p e = sheets_piled p (length p) 0 (holds (pile_fits p) e)
+
+-- an empty pile has no identity, and the number of each of its parts is 0
+pub no_identity : (p : List ℕ) → 0 ≡ length p → pile_identity p ≡ record { image = 0; revision = 0; extended = 0 }
+unfolding le
+no_identity [] e = refl
+no_identity (x ∷ p) e = absurd (omega arith)
 
 -- ---- 15 and 16 go before t
 

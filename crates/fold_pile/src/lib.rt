@@ -1,9 +1,10 @@
 // Document 02, #114: a pile of sheets, and rules 15 and 16 for it.
 #![tactic(auto)]
 
-ghost use Rattle.std.specs.Prelude.{◌≡◌, ℕ, ◌<◌, List, slice_index};
+ghost use Rattle.std.specs.Prelude.{◌≡◌, ℕ, ◌<◌, List, true, slice_index};
 ghost use Rattle.std.specs.Iterator.{YieldsFirstRef, item_count};
-ghost use Rattle.fold_pile.specs.Pile.{sheets, sheet_number, sheets_number, pile_number, pile_identity};
+ghost use Rattle.facts.specs.Fact.{test};
+ghost use Rattle.fold_pile.specs.Pile.{sheets, sheet_number, sheets_number, pile_identity, Piled, pile_fits};
 ghost use Rattle.fold_pile.specs.Refused.{number_of_refusal, told};
 
 use answers::Identity;
@@ -93,13 +94,14 @@ fn check_sheets(pile: &[u8], first: Identity) -> Result<(), Refusal>
     Ok(())
 }
 
-// A pile that passes 15 and 16, and the identity of its sheets.
+// A pile of sheets, each of which passes 15 and lies whole in it with nothing left over, and the identity of the first. That all have this
+// identity (16) is what `check` tells of its bytes: who walks over the sheets need not know it.
 #[derive(Clone, Copy)]
 pub struct Pile<'a> {
     pub bytes: &'a [u8],
     pub first: Identity,
     ghost in_range: { (k : ℕ) → slice_index bytes.now k < 256 },
-    ghost passed: { pile_number bytes.now ≡ 0 },
+    ghost piled: { test (pile_fits bytes.now) ≡ true },
     ghost named: { first ≡ pile_identity bytes.now },
 }
 
@@ -119,6 +121,22 @@ impl<'a> Pile<'a> {
         let first = sheet.identity();
         check_sheets(bytes, first)?;
         Ok(Pile { bytes, first })
+    }
+
+    // The same of bytes that are known to be sheets, of whatever identities.
+    pub fn known(bytes: &'a [u8]) -> Pile<'a>
+        requires { Piled bytes.now 0 (sheets bytes.now) }
+        ensures { result.bytes.now ≡ bytes.now }
+    {
+        let first = match sheets_of(bytes).next() {
+            Some(sheet) => Sheet::known(sheet).identity(),
+            None => Identity {
+                image: 0,
+                revision: 0,
+                extended: 0,
+            },
+        };
+        Pile { bytes, first }
     }
 
     // Its sheets.

@@ -52,7 +52,8 @@ fn put_back(out: &mut [u8], at: usize, sum: usize) -> usize
     p + 1
 }
 
-// A record with these bytes.
+// A record with these bytes. (Inlined: where it isn't, an export takes a quarter more.)
+#[inline(always)]
 pub fn put_line(out: &mut [u8], at: usize, kind: u8, address: usize, bytes: &[u8]) -> usize
     requires { (at + 12 + 2 * length bytes.now ≤ length out.old) × (address < 65536) × (length bytes.now ≤ 16) }
     ensures { Wrote out.old out.new at (line kind address bytes.now) result }

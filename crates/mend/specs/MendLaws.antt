@@ -17,7 +17,7 @@ use Rattle.reading_rules.specs.Edition.{older_28, refused_same, later_of, same_r
 use Rattle.move_image.specs.Moving.{move_to}
 use Rattle.audit_count.specs.Differences.{entries}
 use Rattle.audit.specs.Audit.{shipped_base, reference, told_by, differing, refused_audit, auditing, listed, listed_bytes}
-use Rattle.audit.specs.AuditLaws.{later_told, later_reference, audit_unread, audit_accepted, names, bytes_kept, listed_so}
+use Rattle.audit.specs.AuditLaws.{later_told, later_reference, audit_unread, audit_accepted, names, list_kept, bytes_kept, listed_so}
 use Rattle.mend_file.specs.PutBack.{restored}
 use Rattle.mend.specs.Mend.{mended, mending, mended_file, mended_list, mended_bytes}
 
@@ -65,12 +65,25 @@ module _ (xs ys : List ℕ) (room : ℕ) where
   unfolding mended_file
   file_mended e = changed_so (mending xs ys room).number (mended xs ys) ys e
 
--- nor of the list of bytes
+-- nor of the list
+pub places_kept : (xs ys places : List ℕ) → ((mending xs ys (length places)).number ≡ 0 → ⊥) → mended_list xs ys places ≡ places
+unfolding mended_list
+places_kept xs ys places h = kept_so (mending xs ys (length places)).number (listed xs ys places) places h
+
 pub places_bytes_kept : (xs ys bytes : List ℕ) → ((mending xs ys (length bytes / 4)).number ≡ 0 → ⊥) → mended_bytes xs ys bytes ≡ bytes
 unfolding mended_bytes
 places_bytes_kept xs ys bytes h = kept_so (mending xs ys (length bytes / 4)).number (listed_bytes xs ys bytes) bytes h
 
--- where the vendor image reads as edition 2 that list is the audit's, refused or not
+-- where the vendor image reads as edition 2 the list is the audit's, refused or not
+pub places_listed : (xs ys places : List ℕ) → Read2 xs → mended_list xs ys places ≡ listed xs ys places
+unfolding mended_list
+places_listed xs ys places ok =
+    elim (ℕ_discrete (mending xs ys (length places)).number 0) [
+      | yes e ↦ changed_so (mending xs ys (length places)).number (listed xs ys places) places e
+      | no n ↦ places_kept xs ys places n
+          ∙ sym (list_kept xs ys places (λ e. n (ap (λ (a : Audited). a.number) (mend_read xs ys (length places) ok) ∙ e)))
+    ]
+
 pub bytes_listed : (xs ys bytes : List ℕ) → Read2 xs → mended_bytes xs ys bytes ≡ listed_bytes xs ys bytes
 unfolding mended_bytes
 bytes_listed xs ys bytes ok =

@@ -16,8 +16,8 @@ fn lay_over(vendor: &[u8], file: &mut [u8], r: Reading)
 {
     let from = r.c + 32;
     let end = r.c + r.z;
-    file[..from].copy_from_slice(&vendor[..from]);
-    file[end..].copy_from_slice(&vendor[end..]);
+    sheet_bodies::copy_body(file, 0, vendor, 0, from);
+    sheet_bodies::copy_body(file, end, vendor, end, vendor.len() - end);
 }
 
 // Puts back every byte that isn't a setting's: the vendor's bytes, then these moved to the file's base.

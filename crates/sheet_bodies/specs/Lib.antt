@@ -1,5 +1,4 @@
 pub mod Set
 pub mod SetLaws
 pub mod PartLaws
-pub mod CopyLaws
 pub mod Small

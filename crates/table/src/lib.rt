@@ -105,12 +105,18 @@ pub fn point_at(image: &[u8], t: usize, i: usize) -> Place
     point(words::le32(image, t + 4 * i), image.len())
 }
 
-// Where an entry points that isn't refused, with nothing left to judge: what the scans over pairs of entries ask.
+// Where an entry points that isn't refused, with nothing left to judge: what the scans over pairs of entries ask. (`counted` would judge again
+// whether the place lies before the image's start.)
 fn spot(entry: usize, size: usize) -> usize
     requires { (place_of size entry).number ≡ 0 }
     ensures { result ≡ (place_of size entry).at }
 {
-    counted(entry, size).unwrap()
+    let low = entry % 16777216;
+    let back = entry / 2147483648 % 2;
+    if back == 0 {
+        return low;
+    }
+    size - (16777216 - low)
 }
 
 // Where entry i of the table at t points, if it isn't refused.

@@ -97,17 +97,19 @@ pub fn first_overlap(image: &[u8], t: usize, n: usize, c: usize, z: usize) -> Op
     let sure = surely_apart(image, t, n);
     let E = t + 4 * n;
     let mut high = 0;
-    for i in 0..n {
-        let a = table::spot_at(image, t, i);
-        if !is_outside(a, E, c, z) {
-            return Some(i);
-        }
-        for j in skipped(sure, a, high, i)..i {
-            if !is_apart(a, table::spot_at(image, t, j)) {
-                return Some(i);
+    'entries: {
+        for i in 0..n {
+            let a = table::spot_at(image, t, i);
+            if !is_outside(a, E, c, z) {
+                break 'entries Some(i);
             }
+            for j in skipped(sure, a, high, i)..i {
+                if !is_apart(a, table::spot_at(image, t, j)) {
+                    break 'entries Some(i);
+                }
+            }
+            high = high.max(a + 4);
         }
-        high = high.max(a + 4);
+        None
     }
-    None
 }

@@ -1,5 +1,5 @@
 use Rattle.std.proofs.Common.{arith, refl, ◌∙◌}
-use Rattle.fold_pile.specs.PileLaws.{is_piled}
+use Rattle.fold_pile.specs.PileLaws.{piled_of}
 use Rattle.fold_bodies.specs.BodiesLaws.{piling_start, piling_next, piling_end, piling_not}
 use Rattle.fold_bodies.proofs.lay_pile.Goals as goal
 
@@ -7,7 +7,7 @@ pub loop-sheet-init : goal.loop-sheet-init
 loop-sheet-init c = (
   omega arith,
   rw (c.into_iter-sheet-iterator.ensures.into_iter_gives, c.sheets-sheet-items.ensures)
-      (piling_start _ _ _ _ _ (is_piled _ c.args.pile.now.passed)),
+      (piling_start _ _ _ _ _ (piled_of _ c.args.pile.now.piled)),
 )
 
 pub known-requires : goal.known-requires

@@ -1,5 +1,5 @@
 use Rattle.std.proofs.Common.{arith, refl, ◌∙◌}
-use Rattle.fold_pile.specs.PileLaws.{is_piled}
+use Rattle.fold_pile.specs.PileLaws.{piled_of}
 use Rattle.fold_cells.specs.CellsLaws.{filling_start, filling_next, filling_end}
 use Rattle.fold_cells.proofs.fill.Goals as goal
 
@@ -7,7 +7,7 @@ pub loop-sheet-init : goal.loop-sheet-init
 loop-sheet-init c =
     let f = c.fill.ensures in (
       rw (c.into_iter-sheet-iterator.ensures.into_iter_gives, c.sheets-sheet-items.ensures)
-          (filling_start _ _ _ (is_piled _ c.args.pile.now.passed) (λ j h. f.clones j 0 (omega (arith, f.len)) refl)),
+          (filling_start _ _ _ (piled_of _ c.args.pile.now.piled) (λ j h. f.clones j 0 (omega (arith, f.len)) refl)),
       f.len,
     )
 

@@ -1,12 +1,12 @@
 use Rattle.std.proofs.Common.{arith}
-use Rattle.fold_pile.specs.PileLaws.{is_piled}
+use Rattle.fold_pile.specs.PileLaws.{piled_of}
 use Rattle.fold_cells.specs.CellsLaws.{seeking_start, seeking_next, seeking_end}
 use Rattle.fold_cells.proofs.next_set.Goals as goal
 
 pub loop-sheet-init : goal.loop-sheet-init
 loop-sheet-init c = (
   rw (c.into_iter-sheet-iterator.ensures.into_iter_gives, c.sheets-sheet-items.ensures)
-      (seeking_start _ _ _ (is_piled _ c.args.pile.now.passed) c.requires),
+      (seeking_start _ _ _ (piled_of _ c.args.pile.now.piled) c.requires),
   omega arith,
 )
 

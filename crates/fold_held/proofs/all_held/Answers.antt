@@ -1,6 +1,6 @@
 use Rattle.std.proofs.Common.{arith}
 use mathlib.Core.Bool.{false≢true}
-use Rattle.fold_pile.specs.PileLaws.{is_piled}
+use Rattle.fold_pile.specs.PileLaws.{piled_of}
 use Rattle.fold_held.specs.HeldLaws.{sought_start, sought_next, sought_end}
 use Rattle.fold_held.proofs.all_held.Goals as goal
 
@@ -8,7 +8,7 @@ pub loop-sheet-init : goal.loop-sheet-init
 loop-sheet-init c = (
   omega arith,
   rw (c.into_iter-sheet-iterator.ensures.into_iter_gives, c.sheets-sheet-items.ensures)
-      (sought_start _ _ (is_piled _ c.args.pile.now.passed)),
+      (sought_start _ _ (piled_of _ c.args.pile.now.piled)),
 )
 
 pub known-requires : goal.known-requires

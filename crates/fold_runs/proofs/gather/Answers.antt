@@ -1,12 +1,12 @@
 use Rattle.std.proofs.Common.{sym, ◌∙◌, arith}
-use Rattle.fold_pile.specs.PileLaws.{is_piled}
+use Rattle.fold_pile.specs.PileLaws.{piled_of}
 use Rattle.fold_runs.specs.RunsLaws.{gathering_start, gathering_next}
 use Rattle.fold_runs.proofs.gather.Goals as goal
 
 pub loop-sheet-init : goal.loop-sheet-init
 loop-sheet-init c =
     rw (c.into_iter-sheet-iterator.ensures.into_iter_gives, c.sheets-sheet-items.ensures)
-    (gathering_start _ _ _ _ (is_piled _ c.args.pile.now.passed) (record { few = omega arith; some = omega arith; runs = omega arith; met = omega arith; long = c.requires.0; seats = c.requires.1 }))
+    (gathering_start _ _ _ _ (piled_of _ c.args.pile.now.piled) (record { few = omega arith; some = omega arith; runs = omega arith; met = omega arith; long = c.requires.0; seats = c.requires.1 }))
 
 pub known-requires : goal.known-requires
 known-requires c = (rw c.in-Some.ensures.steps at c.loop-sheet.invariant).walk.fit.0

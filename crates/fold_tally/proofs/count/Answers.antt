@@ -5,7 +5,7 @@ use Rattle.fold_cells.specs.SetAt.{set_at}
 use Rattle.fold_cells.specs.Cells.{Bounded, Shows}
 use Rattle.fold_cells.specs.ReachLaws.{set_bounded}
 use Rattle.fold_pile.specs.Pile.{sheets}
-use Rattle.fold_pile.specs.PileLaws.{is_piled}
+use Rattle.fold_pile.specs.PileLaws.{piled_of}
 use Rattle.words.specs.Le.{Bytes}
 use Prim.Native.Nat.{ℕ, ◌+◌}
 use lib.ListN.{length}
@@ -39,7 +39,7 @@ unfolding Bytes
 returns-then-base-eq4295032831 c =
     let p = c.args.pile.now.bytes.now in
     let f = set_at (sheets p) in
-    let b : Bounded f = set_bounded p c.args.pile.now.in_range (is_piled p c.args.pile.now.passed) in
+    let b : Bounded f = set_bounded p c.args.pile.now.in_range (piled_of p c.args.pile.now.piled) in
     let e = gap_tally f c.loop-at.at c.next_set-base.result c.loop-at.t c.pass-t.result c.next_set-base.ensures.0 c.loop-at.invariant.0 c.pass-t.ensures in
     record { counted = counted_all f b c.next_set-base.result c.pass-t.result e (omega (arith, c.if-base-eq4295032831.true)); cells_len_unchanged = c.loop-at.invariant.2 }
 
@@ -62,7 +62,7 @@ unfolding Bytes
 returns-then-t-gt256 c =
     let p = c.args.pile.now.bytes.now in
     let f = set_at (sheets p) in
-    let b : Bounded f = set_bounded p c.args.pile.now.in_range (is_piled p c.args.pile.now.passed) in
+    let b : Bounded f = set_bounded p c.args.pile.now.in_range (piled_of p c.args.pile.now.piled) in
     let e = gap_tally f c.loop-at.at c.next_set-base.result c.loop-at.t c.pass-t.result c.next_set-base.ensures.0 c.loop-at.invariant.0 c.pass-t.ensures in
     let g = counted-on f c.fill.new.cells c.next_set-base.result c.pass-t.result c.count_cells-t.result c.fill.ensures.shows e c.count_cells-t.ensures in
     record {
@@ -97,5 +97,5 @@ unfolding Bytes
 returns c =
     let p = c.args.pile.now.bytes.now in
     let f = set_at (sheets p) in
-    let b : Bounded f = set_bounded p c.args.pile.now.in_range (is_piled p c.args.pile.now.passed) in
+    let b : Bounded f = set_bounded p c.args.pile.now.in_range (piled_of p c.args.pile.now.piled) in
     record { counted = counted_all f b c.loop-at.at c.loop-at.t c.loop-at.invariant.0 c.loop-at-test.false; cells_len_unchanged = c.loop-at.invariant.2 }

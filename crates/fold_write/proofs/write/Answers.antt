@@ -5,7 +5,7 @@ use Rattle.fold_cells.specs.SetAt.{set_at}
 use Rattle.fold_cells.specs.Cells.{Bounded}
 use Rattle.fold_cells.specs.ReachLaws.{set_bounded}
 use Rattle.fold_pile.specs.Pile.{sheets}
-use Rattle.fold_pile.specs.PileLaws.{is_piled}
+use Rattle.fold_pile.specs.PileLaws.{piled_of}
 use Rattle.words.specs.Le.{Bytes}
 use lib.ListN.{length}
 use mathlib.Core.Path.{◌≡◌, refl, ap, ◌∙◌}
@@ -22,7 +22,7 @@ pub write_gap-t-requires : goal.write_gap-t-requires
 unfolding Bytes
 write_gap-t-requires c =
     let p = c.args.pile.now.bytes.now in
-    let b : Bounded (set_at (sheets p)) = set_bounded p c.args.pile.now.in_range (is_piled p c.args.pile.now.passed) in
+    let b : Bounded (set_at (sheets p)) = set_bounded p c.args.pile.now.in_range (piled_of p c.args.pile.now.piled) in
     ((λ h. rw c.loop-at.invariant.3 (safe_gap _ _ _ b _ c.requires.room c.loop-at.at c.next_set-base.result c.loop-at.t c.loop-at.out c.loop-at.invariant.0 c.next_set-base.ensures.0 h)), now_small _ _ _ c.loop-at.at _ c.loop-at.out c.loop-at.invariant.0 c.loop-at.invariant.1)
 
 pub shape_of-out-then-base-eq4295032831 : goal.shape_of-out-then-base-eq4295032831
@@ -46,7 +46,7 @@ pub write_cells-t-requires : goal.write_cells-t-requires
 unfolding Bytes
 write_cells-t-requires c =
     let p = c.args.pile.now.bytes.now in
-    let b : Bounded (set_at (sheets p)) = set_bounded p c.args.pile.now.in_range (is_piled p c.args.pile.now.passed) in
+    let b : Bounded (set_at (sheets p)) = set_bounded p c.args.pile.now.in_range (piled_of p c.args.pile.now.piled) in
     let w = now_gap _ _ _ c.loop-at.at c.next_set-base.result _ _ _ _ c.loop-at.invariant.0 c.next_set-base.ensures.0 c.write_gap-t.ensures in
     let l : length c.write_gap-t.new.out ≡ length c.args.out.now = ap length w.out ∙ length_out _ _ _ _ in
     rw l (all_safe _ _ _ b _ c.requires.room c.next_set-base.result _ _ c.write_gap-t.new.out w c.fill.ensures.shows c.next_set-base.ensures.1 (omega (arith, c.fill.ensures.cells_len_unchanged, c.loop-at.invariant.2, c.requires.in_bounds.1)))
@@ -75,5 +75,5 @@ pub returns : goal.returns
 unfolding Bytes
 returns c =
     let p = c.args.pile.now.bytes.now in
-    let b : Bounded (set_at (sheets p)) = set_bounded p c.args.pile.now.in_range (is_piled p c.args.pile.now.passed) in
+    let b : Bounded (set_at (sheets p)) = set_bounded p c.args.pile.now.in_range (piled_of p c.args.pile.now.piled) in
     record { out_after = c.loop-at.invariant.0.out ∙ out_settled _ _ _ b c.loop-at.at c.loop-at-test.false; cells_len_unchanged = c.loop-at.invariant.2 }

@@ -1,13 +1,12 @@
 use Rattle.sheet_bodies.specs.SetLaws.{length_written, body_within}
-use Rattle.sheet_bodies.specs.Set.{written, joined}
-use Rattle.sheet_bodies.specs.CopyLaws.{copied_part}
+use Rattle.sheet_bodies.specs.Set.{written}
 use Rattle.sheet.specs.Sheet.{Sound, count, offset, size, position, entry_at, body_at, field_fits}
 use Rattle.sheet.specs.declared.Entry.{Entry}
 use Rattle.facts.specs.Fact.{Holds}
 use lib.ListN.{length}
 use mathlib.Core.List.{List}
 use Prim.Native.Nat.{ℕ, ◌+◌, ◌-◌, ◌≤◌, ◌<◌}
-use mathlib.Core.Path.{◌≡◌, refl, sym, ap, ◌∙◌}
+use mathlib.Core.Path.{◌≡◌, refl, ap, ◌∙◌}
 use native.Mathlib.Numerals.{add-one}
 use native.Mathlib.Omega.{arith}
 use Rattle.sheet_bodies.proofs.write_sheet.Goals as goal
@@ -24,17 +23,13 @@ pub loop-i-init : goal.loop-i-init
 unfolding written
 loop-i-init c = (refl, refl)
 
-pub overflow_sub-at : goal.overflow_sub-at
-overflow_sub-at c = omega (arith, entry c.loop-i.i c.requires (omega (arith, c.count-i-end.ensures.value.0)) c.entry-w.ensures.value)
+pub overflow_sub-w : goal.overflow_sub-w
+overflow_sub-w c = omega (arith, entry c.loop-i.i c.requires (omega (arith, c.count-i-end.ensures.value.0)) c.entry-w.ensures.value)
 
-pub overflow_add-body : goal.overflow_add-body
-overflow_add-body c = omega (arith, entry c.loop-i.i c.requires (omega (arith, c.count-i-end.ensures.value.0)) c.entry-w.ensures.value)
-
-pub slice_bounds-copy_from_slice-end : goal.slice_bounds-copy_from_slice-end
-slice_bounds-copy_from_slice-end c = omega (arith, entry c.loop-i.i c.requires (omega (arith, c.count-i-end.ensures.value.0)) c.entry-w.ensures.value, c.loop-i.auto.part)
-
-pub slice_bounds-body-end : goal.slice_bounds-body-end
-slice_bounds-body-end c = rw c.bytes-bytes.ensures (omega (arith, entry c.loop-i.i c.requires (omega (arith, c.count-i-end.ensures.value.0)) c.entry-w.ensures.value))
+pub copy_body-requires : goal.copy_body-requires
+copy_body-requires c =
+    rw c.bytes-bytes.ensures
+    (omega (arith, entry c.loop-i.i c.requires (omega (arith, c.count-i-end.ensures.value.0)) c.entry-w.ensures.value, c.loop-i.invariant.1))
 
 pub loop-i-preserved : goal.loop-i-preserved
 unfolding written
@@ -46,14 +41,8 @@ loop-i-preserved c =
     let of : c.entry-w.result.offset ≡ offset s L.i = ap (λ (k : Entry). k.offset) e in
     let sz : c.entry-w.result.size ≡ size s L.i = ap (λ (k : Entry). k.size) e in
     let po : c.entry-w.result.position ≡ body_at s L.i = ap (λ (k : Entry). k.position) e ∙ (c.requires.bodies.0 L.i (omega (arith, c.count-i-end.ensures.value.0))).1.0 in
-    let w = c.entry-w.result in
-    let long-a : w.offset - 32 + w.size - (w.offset - 32) ≡ w.size = omega arith in
-    let long-b : w.position + w.size - w.position ≡ w.size = omega arith in
-    let lies = entry c.loop-i.i c.requires (omega (arith, c.count-i-end.ensures.value.0)) c.entry-w.ensures.value in
-    let part = copied_part L.part (w.offset - 32) s w.position w.size (omega (arith, lies, L.auto.part)) (omega (arith, lies)) in
-    let new : joined L.part (w.offset - 32) w.size c.copy_from_slice.new.self ≡ written p s (L.i + 1) =
-    rw (add-one, ← L.invariant.0, ← of, ← sz, ← po) (rw (c.copy_from_slice.ensures.after, c.bytes-bytes.ensures, long-b) (sym part)) in
-    (rw long-a new, rw long-a (ap length new ∙ length_written p s (L.i + 1)))
+    let new : c.copy_body.new.part ≡ written p s (L.i + 1) = rw (add-one, ← L.invariant.0, ← of, ← sz, ← po) (rw c.bytes-bytes.ensures at c.copy_body.ensures) in
+    (new, ap length new ∙ length_written p s (L.i + 1))
 
 pub shape_of-part : goal.shape_of-part
 shape_of-part c = c.loop-i.invariant.1

@@ -71,8 +71,8 @@ loop-i-preserved c =
       below_more _ _ (λ k h. omega (arith, c.loop-i.invariant.1 k h)) (omega (arith, a)),
     )
 
-pub returns : goal.returns
-returns c =
+pub returns-after-loop-i : goal.returns-after-loop-i
+returns-after-loop-i c =
     is_first (record { within = omega arith; clear = λ i h. c.loop-i.invariant.0 i (omega arith); fault = λ h. absurd (omega arith) })
 
 pub returns-then-not-is_outside : goal.returns-then-not-is_outside

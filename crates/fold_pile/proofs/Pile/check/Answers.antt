@@ -1,7 +1,7 @@
-use Rattle.std.proofs.Common.{◌≡◌, [], ◌∷◌, refl, sym, ◌∙◌, arith}
+use Rattle.std.proofs.Common.{◌≡◌, refl, sym, ◌∙◌, arith}
 use Rattle.std.proofs.lemmas.Result.{err_from_is_err_and}
-use Rattle.fold_pile.specs.Pile.{sheets, pile_identity}
-use Rattle.fold_pile.specs.PileLaws.{pile_on, pile_not, pile_unfit}
+use Rattle.fold_pile.specs.Pile.{pile_identity}
+use Rattle.fold_pile.specs.PileLaws.{pile_on, pile_not, pile_unfit, is_piled, pile_fitting}
 use Rattle.fold_pile.specs.SheetsLaws.{first_some, first_none}
 use Rattle.fold_pile.proofs.Pile.check.Goals as goal
 
@@ -24,7 +24,7 @@ pub invariant_of-result : goal.invariant_of-result
 invariant_of-result c =
     let f = first_some _ _ _ (sym c.sheets_of.ensures ∙ c.in-Some.ensures.steps) in
     let e : c.identity-first.result ≡ pile_identity c.args.bytes.now = rw (c.in-Some-of.ensures.0, f.1) at c.identity-first.ensures in
-    record { in_range = λ k. omega (arith, c.type_inv.bytes k); passed = pile_on c.args.bytes.now (omega (arith, f.0)) ∙ sym (rw e at c.in_ok-check_sheets.ensures); named = e }
+    record { in_range = λ k. omega (arith, c.type_inv.bytes k); piled = pile_fitting _ (is_piled _ (pile_on c.args.bytes.now (omega (arith, f.0)) ∙ sym (rw e at c.in_ok-check_sheets.ensures))); named = e }
 
 pub returns : goal.returns
 returns c =
