@@ -1,13 +1,17 @@
 -- A stretch is marked as a list of its own, which lies between what is before it and after it.
 -- Assumes nothing.
-use Rattle.std.specs.Prelude.{ℕ, zero, ◌+◌, ◌-◌, ◌≤◌, ◌<◌, suc, max, Bool, true, false, List, [], ◌∷◌, ◌++◌, ◌≡◌, length, get_or, take, drop, replicate}
+use Rattle.std.specs.Prelude.{ℕ, zero, ◌+◌, ◌-◌, ◌*◌, ◌^◌, ◌≤◌, ◌<◌, suc, refl, max, Bool, true, false, List, [], ◌∷◌, ◌≡◌, length, get_or, take, drop}
 use Rattle.std.specs.List.{fold}
-use Rattle.std.proofs.Common.{sym, ap, ◌∙◌, arith, length-take, length-drop}
+use Rattle.std.specs.Bool.{nat_eq}
+use Rattle.std.proofs.Common.{sym, ap, ◌∙◌, arith, mul-zero, mul-suc, length-take, length-drop}
 use Rattle.std.proofs.lemmas.List.{get_or-take, get_or-drop, get_or-replicate}
+use Rattle.std.proofs.lemmas.Bool.{eqb-true, eq-eqb}
 use Rattle.std.proofs.lemmas.Slice.{drop-put_mid, between-put_mid}
 use borrow.Rule.Slice.PartMut.{put_mid, same_len_mid, take_put}
-use Rattle.std.proofs.Math.Decide.{dec_lt}
-use Rattle.apart_strokes.specs.Strokes.{Struck, Painting, Stroked, Painted}
+use Rattle.std.proofs.Math.Decide.{dec_lt, ℕ_discrete}
+use Rattle.words.specs.Le.{le, Word}
+use Rattle.words.specs.PutLaws.{pos256}
+use Rattle.apart_strokes.specs.Strokes.{Struck, Painting, Within, Stroked, Painted}
 
 pub false_true : {P : Type 0} → false ≡ true → P
 false_true e = absurd (let z : ◌≡◌ {A = ℕ} 0 1 = cc in omega arith)
@@ -33,6 +37,55 @@ max_some limit top (x ∷ xs) low h =
       | yes l ↦ (0, (omega arith, l))
       | no l ↦ let s = max_some limit (max top x) xs (omega arith) h in (suc s.0, (omega (arith, s.1.0), s.1.1))
     ]
+
+-- ---- several bytes in one go: a number that is 0 is bytes that are all 0
+
+top_none : (k b : ℕ) → 256 ^ k * b ≡ 0 → b ≡ 0
+top_none k zero e = refl
+top_none k (suc b) e = absurd (omega (arith, pos256 k, mul-suc (256 ^ k) b))
+
+-- the bytes of 0 are 0
+pub le_none : (k : ℕ) (xs : List ℕ) (at : ℕ) → le k xs at ≡ 0 → (i : ℕ) → at ≤ i → i < at + k → get_or xs i 0 ≡ 0
+unfolding le
+le_none zero xs at e i g h = absurd (omega arith)
+le_none (suc k) xs at e i g h =
+    elim (dec_lt i (at + k)) [
+      | yes l ↦ le_none k xs at (omega arith) i g l
+      | no l ↦ let z : i ≡ at + k = omega arith in rw z (top_none k (get_or xs (at + k) 0) (omega arith))
+    ]
+
+-- any other number has a byte that isn't 0
+pub le_some : (k : ℕ) (xs : List ℕ) (at : ℕ) → (le k xs at ≡ 0 → ⊥) → Struck xs at (at + k) 0
+unfolding le
+le_some zero xs at n = absurd (n refl)
+le_some (suc k) xs at n =
+    elim (ℕ_discrete (get_or xs (at + k) 0) 0) [
+      | no d ↦ record { at = at + k; low = omega arith; high = omega arith; over = omega arith }
+      | yes d ↦
+          let s = le_some k xs at (λ e. n (rw (d, mul-zero (256 ^ k)) (omega arith))) in
+          record { at = s.at; low = s.low; high = omega (arith, s.high); over = s.over }
+    ]
+
+module _ (k n : ℕ) (xs : List ℕ) (w : Word xs 0 k n) (long : length xs ≡ k) where
+  none : n ≡ 0 → fold max 0 xs ≤ 0
+  none e =
+      elim (dec_lt 0 (fold max 0 xs)) [
+        | yes l ↦
+            let s = max_some 0 0 xs (omega arith) l in
+            absurd (omega (arith, s.1.1, le_none k xs 0 (sym w.is ∙ e) s.0 (omega arith) (omega (arith, s.1.0))))
+        | no l ↦ omega arith
+      ]
+
+  some : (n ≡ 0 → ⊥) → 0 < fold max 0 xs
+  some other = let s = le_some k xs 0 (λ e. other (w.is ∙ e)) in omega (arith, max_most 0 xs s.at (omega (arith, s.high)), s.over)
+
+  -- whether a word is all 0 tells whether its bytes are
+  pub within : (r : Bool) → r ≡ nat_eq n 0 → Within xs 0 r
+  within r e =
+      record {
+        met = λ t. none (eqb-true n 0 (sym e ∙ t));
+        bad = λ f. some (λ z. false_true (sym f ∙ e ∙ eq-eqb n 0 z));
+      }
 
 -- ---- a stretch a..e of a list
 

@@ -3,7 +3,7 @@
 
 ghost use Rattle.std.specs.Prelude.{◌≡◌, ◌+◌, ◌≤◌, max, length};
 ghost use Rattle.std.specs.List.{fold};
-ghost use Rattle.apart_strokes.specs.Strokes.{Stroked, Painted};
+ghost use Rattle.apart_strokes.specs.Strokes.{Within, Stroked, Painted};
 
 // The highest of them, without a jump for each: so several are compared in one go.
 fn highest(marks: &[u8]) -> u8
@@ -12,11 +12,25 @@ fn highest(marks: &[u8]) -> u8
     marks.iter().fold(0, |top: u8, m| top.max(*m))
 }
 
+// Whether none of them is past the limit. Of a word's 4 or 8 bytes, where none may be marked at all, one number tells. (Inlined, so that a limit
+// and a length that are known where it is compiled choose there.)
+#[inline(always)]
+fn is_within(marks: &[u8], limit: u8) -> bool
+    ensures { Within marks.now limit result }
+{
+    match (limit, marks.len()) {
+        (0, 4) => words::le32(marks, 0) == 0,
+        (0, 8) => words::le64(marks, 0) == 0,
+        _ => highest(marks) <= limit,
+    }
+}
+
 // Marks all of the stretch, unless a byte of it is marked past the limit.
+#[inline(always)]
 fn stroke(stretch: &mut [u8], limit: u8, mark: u8) -> bool
     ensures { Stroked stretch.old stretch.new limit mark result }
 {
-    if limit < highest(stretch) {
+    if !is_within(stretch, limit) {
         return false;
     }
     stretch.fill(mark);

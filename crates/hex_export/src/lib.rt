@@ -23,7 +23,8 @@ fn put_upper(out: &mut [u8], at: usize, a: u64) -> usize
     hex_line::put_line(out, at, 4, 0, &upper)
 }
 
-// The data from byte i on.
+// The data from byte i on. (Inlined, as a record is: it stands in two places below, each of which does a record's whole work.)
+#[inline(always)]
 fn put_data(out: &mut [u8], at: usize, base: u64, bytes: &[u8], i: usize) -> usize
     requires { (at + 12 + 2 * part_length (length bytes.now) i ≤ length out.old) × (i ≤ length bytes.now) × (base + i < 2 ^ 32) }
     ensures { Wrote out.old out.new at (data_line (base + i) (sixteen bytes.now i)) result }

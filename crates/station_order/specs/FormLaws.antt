@@ -1,7 +1,7 @@
 -- The source's table is the request's.
 -- Assumes nothing.
-use Rattle.std.specs.Prelude.{ℕ, cond, Option, ◌≤◌, ◌≡◌, refl}
-use Rattle.std.proofs.Common.{◌∙◌}
+use Rattle.std.specs.Prelude.{ℕ, cond, Option, MatchOption, ◌≤◌, ◌≡◌, refl}
+use Rattle.std.proofs.Common.{◌∙◌, Some, None}
 use Rattle.facts.specs.Fact.{test}
 use Rattle.station_order.specs.declared.State.{State}
 use Rattle.station_order.specs.declared.State.TheVariants.{AtReset, WithTempRam, ToExit, WithMemory, WithSilicon, Notified20, Notified40, NotifiedF0}
@@ -9,7 +9,7 @@ use Rattle.station_order.specs.declared.Call.{Call}
 use Rattle.station_order.specs.declared.Call.TheVariants.{TempRamInit, MemoryInit, TempRamExit, SiliconInit, Notify20, Notify40, NotifyF0}
 use Rattle.station_order.specs.Order.{table, noted, of_call, some, refusal, by_rows, ordered}
 use Rattle.station_order.specs.OrderLaws.{none_here}
-use Rattle.station_order.specs.Forms.{call_number, notification_of, state_number, next_of, told}
+use Rattle.station_order.specs.Forms.{call_number, notification_of, state_number, next_of, reached, told}
 
 -- the same for each call
 each : (P : Call → Type 0) → P TempRamInit → P MemoryInit → P TempRamExit → P SiliconInit → P Notify20 → P Notify40 → P NotifyF0
@@ -50,3 +50,8 @@ module _ (call n : ℕ) (c : Call) (is : call ≡ call_number c) (with : noted c
 
   pub by_next : (s : State) (r : Option State) → state ≡ state_number s → r ≡ next_of s c → ordered state call n ≡ told state r
   by_next s r e f = by_its_rows ∙ rw (e, f) (same_table s c)
+
+  pub by_reached : (o r : Option State) → MatchOption o (8 ≤ state) (λ s. state ≡ state_number s) → r ≡ reached o c
+      → ordered state call n ≡ told state r
+  by_reached None r e f = rw f (other_state e)
+  by_reached (Some s) r e f = by_next s r e f

@@ -57,6 +57,11 @@ next_of Notified20 Notify40 = Some Notified40
 next_of Notified40 NotifyF0 = Some NotifiedF0
 next_of s c = None
 
+-- the same from a number that may be none of a state
+abbrev pub reached : Option State → Call → Option State
+reached None c = None
+reached (Some s) c = next_of s c
+
 -- the answer in a state, by what its table says
 abbrev pub told : ℕ → Option State → Answer
 told state None = refusal state 40

@@ -3,7 +3,7 @@
 
 ghost use Rattle.std.specs.Prelude.{◌≡◌, ◌≤◌, MatchOption};
 ghost use Rattle.station_order.specs.Order.{refusal, Orders};
-ghost use Rattle.station_order.specs.Forms.{state_number, next_of, Named};
+ghost use Rattle.station_order.specs.Forms.{state_number, reached, Named};
 
 // The calls, by the numbers that C passes.
 pub const TEMP_RAM_INIT: u64 = 1;
@@ -100,19 +100,20 @@ fn refused(state: u32, number: u32) -> Answer
     Answer { number, state }
 }
 
-// The table: in this state this call leads to that state.
-fn next(state: State, call: Call) -> Option<State>
-    ensures { result ≡ next_of state call }
+// The table: this call in this state, if it is one, leads to that state. (The call first, since its numbers were just told apart: so the
+// compiler makes one choice of both.)
+fn next(state: Option<State>, call: Call) -> Option<State>
+    ensures { result ≡ reached state call }
 {
-    match (state, call) {
-        (State::AtReset, Call::TempRamInit) => Some(State::WithTempRam),
-        (State::AtReset, Call::MemoryInit) => Some(State::WithMemory),
-        (State::WithTempRam, Call::MemoryInit) => Some(State::ToExit),
-        (State::ToExit, Call::TempRamExit) => Some(State::WithMemory),
-        (State::WithMemory, Call::SiliconInit) => Some(State::WithSilicon),
-        (State::WithSilicon, Call::Notify20) => Some(State::Notified20),
-        (State::Notified20, Call::Notify40) => Some(State::Notified40),
-        (State::Notified40, Call::NotifyF0) => Some(State::NotifiedF0),
+    match (call, state) {
+        (Call::TempRamInit, Some(State::AtReset)) => Some(State::WithTempRam),
+        (Call::MemoryInit, Some(State::AtReset)) => Some(State::WithMemory),
+        (Call::MemoryInit, Some(State::WithTempRam)) => Some(State::ToExit),
+        (Call::TempRamExit, Some(State::ToExit)) => Some(State::WithMemory),
+        (Call::SiliconInit, Some(State::WithMemory)) => Some(State::WithSilicon),
+        (Call::Notify20, Some(State::WithSilicon)) => Some(State::Notified20),
+        (Call::Notify40, Some(State::Notified20)) => Some(State::Notified40),
+        (Call::NotifyF0, Some(State::Notified40)) => Some(State::NotifiedF0),
         _ => None,
     }
 }
@@ -124,10 +125,7 @@ pub fn step(state: u32, call: u64, notification: u64) -> Answer
     let Some(named) = Call::of_numbers(call, notification) else {
         return refused(state, 41);
     };
-    let Some(from) = State::of_number(state) else {
-        return refused(state, 40);
-    };
-    match next(from, named) {
+    match next(State::of_number(state), named) {
         Some(to) => Answer {
             number: 0,
             state: to.number(),
